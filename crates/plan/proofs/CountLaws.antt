@@ -1,0 +1,75 @@
+-- Laws of the earliest stop as a rule on counts: within a stage, what comes before an undecided history is undecided; and as many
+-- nongood or bad units as the last rejection number are rejected.
+-- Assumes nothing.
+use Prim.Native.Nat.{ℕ, _-_, _≤_, _<_}
+use mathlib.Core.Path.{_≡_, refl, sym, ap, _∙_}
+use mathlib.Core.Logic.{_⊎_, inl, inr, ⊎-elim}
+use mathlib.Core.List.{List}
+use native.Mathlib.Omega.{arith}
+use lib.ListN.{length, take, drop, take-append-drop}
+use lib.Seq.{length-take-le}
+use Rattle.plan.specs.declared.counts.Counts.{Counts}
+use Rattle.plan.specs.declared.stopping.Answer.the-variants.{GoOn, Reject}
+use Rattle.plan.specs.Plan.{Stage, total, last-reject1, last-reject2}
+use Rattle.plan.specs.Counts.{units, nongood, add-units, counts-after, counts}
+use Rattle.plan.specs.Stopping.{at-filled, completed, earliest}
+use Rattle.plan.specs.Promise.{Same-stage}
+use Rattle.plan.proofs.Order.{rank, at-end-mono, undecided, undecided-ranks, rejected}
+use Rattle.plan.proofs.Units.{add-good, add-bad, More, added, more, units-counts, counts-append}
+use Rattle.plan.proofs.Ends.{Each, each-end, each-both, first-mono, first-rejects, end-past, end-due, end-case}
+use Rattle.plan.proofs.Limits.{Limits}
+
+-- ---- within a stage
+
+-- d has n units more than c, and no end lies from c on and before d
+module _ (n : ℕ) (c d : Counts) (m : More n c d) where
+  abbrev Same : ℕ → Type 0
+  Same end = units c ≤ end → units d ≤ end
+
+  worse-sooner : (end : ℕ) (s : Stage) → Same end → rank (at-filled 2 c end s) ≤ rank (at-filled 2 d end s)
+  worse-sooner end s same =
+      end-case 2 c end s (λ a. rank a ≤ rank (at-filled 2 d end s))
+      (λ l. rw (end-past 2 d end s (omega arith)) (omega arith))
+      (λ l. rw (end-due 2 d end s (same l))
+      (at-end-mono s (add-units 2 (end - units d) d) (add-units 2 (end - units c) c) (rw (add-bad, add-bad) (omega (arith, same l)))))
+
+  better-sooner : (end : ℕ) (s : Stage) → Same end → rank (at-filled 0 d end s) ≤ rank (at-filled 0 c end s)
+  better-sooner end s same =
+      end-case 0 c end s (λ a. rank (at-filled 0 d end s) ≤ rank a)
+      (λ l. rw (end-past 0 d end s (omega arith)) (omega arith))
+      (λ l. rw (end-due 0 d end s (same l))
+      (at-end-mono s (add-units 0 (end - units c) c) (add-units 0 (end - units d) d) (rw (add-good, add-good) (omega arith))))
+
+  undecided-sooner : (p : List Stage) → Each (λ end s. Same end) 0 p → earliest p d ≡ GoOn → earliest p c ≡ GoOn
+  unfolding earliest
+  undecided-sooner p same e =
+      let r = undecided-ranks (completed 2 0 p d) (completed 0 0 p d) e in
+      undecided (completed 2 0 p c) (completed 0 0 p c)
+      (omega (arith, first-mono (λ end s. Same end) (at-filled 2 c) (at-filled 2 d) worse-sooner 0 p same))
+      (omega (arith, first-mono (λ end s. Same end) (at-filled 0 d) (at-filled 0 c) better-sooner 0 p same))
+
+pub within-stage : (p : List Stage) (h : List ℕ) (z : ℕ) → z ≤ length h → Same-stage p z (length h)
+    → earliest p (counts h) ≡ GoOn → earliest p (counts (take z h)) ≡ GoOn
+within-stage p h z l same =
+    let split : counts h ≡ counts-after (counts (take z h)) (drop z h) = ap counts (sym (take-append-drop z h)) ∙ counts-append (take z h) (drop z h) in
+    let n : units (counts (take z h)) ≡ z = units-counts (take z h) ∙ length-take-le z h l in
+    undecided-sooner (length (drop z h)) (counts (take z h)) (counts h) (rw split (more (counts (take z h)) (drop z h))) p
+    (each-end (λ end. units (counts (take z h)) ≤ end → units (counts h) ≤ end) 0 p (λ e m k. omega (arith, same e m (omega arith), units-counts h)))
+
+-- ---- as many units as the last rejection number
+
+module _ (p : List Stage) (l : Limits p) (c : Counts) (n : units c ≤ total p) (r : (last-reject1 p ≤ nongood c) ⊎ (last-reject2 p ≤ c .bad)) where
+  at-last : (class end : ℕ) (s : Stage) → s .reject1 ≤ last-reject1 p → s .reject2 ≤ last-reject2 p → units c ≤ end → at-filled class c end s ≡ Reject
+  at-last class end s a b u =
+      let m = added class (end - units c) c in
+      end-due class c end s u ∙ rejected s (add-units class (end - units c) c) (⊎-elim (λ k. inl (omega arith)) (λ k. inr (omega arith)) r)
+
+  completed-rejects : (class : ℕ) → completed class 0 p c ≡ Reject
+  completed-rejects class =
+      first-rejects (units c) (at-filled class c) 0 p
+      (each-both _ _ _ (λ end s a b. (end-past class c end s, at-last class end s a b)) 0 p (l .at-most1) (l .at-most2))
+      (inr (l .some-stage)) (omega arith)
+
+  pub rejects : earliest p c ≡ Reject
+  unfolding earliest
+  rejects = rw (completed-rejects 2, completed-rejects 0)

@@ -1,0 +1,77 @@
+-- The first answer of a plan's stages, from what holds at each stage's end.
+-- Assumes nothing.
+use Prim.Native.Nat.{ℕ, _+_, _-_, _≤_, _<_}
+use mathlib.Core.Path.{_≡_, refl, ap₂}
+use mathlib.Core.Logic.{_⊎_, inl, inr}
+use mathlib.Core.List.{List, [], _∷_}
+use native.Mathlib.Omega.{arith}
+use native.Mathlib.Decide.{decLt}
+use lib.ListN.{length}
+use borrow.Author.Tests.{lt-ltb, le-ltb}
+use Rattle.plan.specs.declared.counts.Counts.{Counts}
+use Rattle.plan.specs.declared.stopping.Answer.{Answer}
+use Rattle.plan.specs.declared.stopping.Answer.the-variants.{GoOn, Accept, Reject}
+use Rattle.plan.specs.Plan.{Stage, total, End}
+use Rattle.plan.specs.Counts.{units, add-units}
+use Rattle.plan.specs.Stopping.{or-else, at-end, first-answer, at-filled}
+use Rattle.plan.proofs.Order.{rank, or-else-mono}
+
+-- P holds at the end of each stage
+abbrev pub Each : (ℕ → Stage → Type 0) → ℕ → List Stage → Type 0
+Each P before [] = Unit {0}
+Each P before (s ∷ rest) = P (before + s .size) s × Each P (before + s .size) rest
+
+pub each-end : (Q : ℕ → Type 0) (before : ℕ) (p : List Stage) → ((e : ℕ) → End before p e → Q e) → Each (λ end s. Q end) before p
+unfolding End
+each-end Q before [] f = tt
+each-end Q before (s ∷ rest) f = (f _ (inl refl), each-end Q (before + s .size) rest (λ e m. f e (inr m)))
+
+module _ (P Q R : ℕ → Stage → Type 0) (f : (end : ℕ) (s : Stage) → P end s → Q end s → R end s) where
+  pub each-both : (before : ℕ) (p : List Stage) → Each P before p → Each Q before p → Each R before p
+  each-both before [] a b = tt
+  each-both before (s ∷ rest) a b = (f _ s (a .0) (b .0), each-both (before + s .size) rest (a .1) (b .1))
+
+module _ (P : ℕ → Stage → Type 0) (f g : ℕ → Stage → Answer) where
+  pub first-mono : ((end : ℕ) (s : Stage) → P end s → rank (f end s) ≤ rank (g end s))
+      → (before : ℕ) (p : List Stage) → Each P before p → rank (first-answer f before p) ≤ rank (first-answer g before p)
+  first-mono m before [] e = omega arith
+  first-mono m before (s ∷ rest) e =
+      or-else-mono (f (before + s .size) s) (g (before + s .size) s) _ _ (m _ s (e .0)) (first-mono m (before + s .size) rest (e .1))
+
+  pub first-same : ((end : ℕ) (s : Stage) → P end s → f end s ≡ g end s)
+      → (before : ℕ) (p : List Stage) → Each P before p → first-answer f before p ≡ first-answer g before p
+  first-same m before [] e = refl
+  first-same m before (s ∷ rest) e = ap₂ or-else (m _ s (e .0)) (first-same m (before + s .size) rest (e .1))
+
+-- where no stage answers, none does
+pub first-on : (before : ℕ) (p : List Stage) → first-answer (λ end s. GoOn) before p ≡ GoOn
+first-on before [] = refl
+first-on before (s ∷ rest) = first-on (before + s .size) rest
+
+-- the first stage that ends after u units or more rejects, and those before it went on
+abbrev pub Rejects-from : ℕ → (ℕ → Stage → Answer) → ℕ → Stage → Type 0
+Rejects-from u f end s = (end < u → f end s ≡ GoOn) × (u ≤ end → f end s ≡ Reject)
+
+pub first-rejects : (u : ℕ) (f : ℕ → Stage → Answer) (before : ℕ) (p : List Stage) → Each (Rejects-from u f) before p
+    → (before < u) ⊎ (1 ≤ length p) → u ≤ before + total p → first-answer f before p ≡ Reject
+unfolding total
+first-rejects u f before [] e (inl l) n = absurd (omega arith)
+first-rejects u f before [] e (inr l) n = absurd (omega arith)
+first-rejects u f before (s ∷ rest) e l n = go (decLt (before + s .size) u) (λ k. first-rejects u f (before + s .size) rest (e .1) (inl k) (omega arith))
+  where
+    go : Dec (before + s .size < u) → (before + s .size < u → first-answer f (before + s .size) rest ≡ Reject)
+        → or-else (f (before + s .size) s) (first-answer f (before + s .size) rest) ≡ Reject
+    go (yes k) later = rw (e .0 .0 k) (later k)
+    go (no k) later = rw (e .0 .1 (omega arith))
+
+-- ---- an end where further units have one class: it is past, or due
+
+module _ (class : ℕ) (c : Counts) (end : ℕ) (s : Stage) where
+  pub end-past : end < units c → at-filled class c end s ≡ GoOn
+  end-past l = rw (lt-ltb end (units c) l)
+
+  pub end-due : units c ≤ end → at-filled class c end s ≡ at-end s (add-units class (end - units c) c)
+  end-due l = rw (le-ltb end (units c) l)
+
+  pub end-case : (Q : Answer → Type 0) → (end < units c → Q GoOn) → (units c ≤ end → Q (at-end s (add-units class (end - units c) c))) → Q (at-filled class c end s)
+  end-case Q f g = elim (decLt end (units c)) [ yes l ↦ rw (end-past l) (f l) | no l ↦ rw (end-due (omega arith)) (g (omega arith)) ]

@@ -1,0 +1,18 @@
+-- What the proofs of several functions use, and the promises to the crates above (Promise).
+mod Bools
+mod Units
+mod Stages
+mod Rows
+mod Words
+mod Whole
+mod FirstStage
+mod Order
+mod Ends
+mod Limits
+mod Shape
+mod Prefix
+mod Verdicts
+mod Best
+mod CountLaws
+mod Uncurtailed
+pub mod Promise

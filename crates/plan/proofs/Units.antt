@@ -1,0 +1,83 @@
+-- Counts: what more units add, and the counts of a list.
+-- Assumes nothing.
+use Prim.Native.Nat.{ℕ, zero, suc, _+_, _≤_}
+use mathlib.Core.Path.{_≡_, refl, sym, ap, _∙_}
+use mathlib.Core.Logic.{_≢_}
+use mathlib.Core.List.{List, [], _∷_, _++_}
+use native.Mathlib.Nat.{add-zero}
+use native.Mathlib.Omega.{arith}
+use lib.ListN.{length, replicate}
+use Rattle.plan.specs.declared.counts.Counts.{Counts}
+use Rattle.plan.specs.Counts.{nongood, units, no-units, add-units, counts-after, counts}
+
+-- ---- units of one class
+
+pub add-good : (n : ℕ) (c : Counts) → add-units 0 n c ≡ record { good = c .good + n; marginal = c .marginal; bad = c .bad }
+unfolding add-units
+add-good n c = refl
+
+pub add-bad : (n : ℕ) (c : Counts) → add-units 2 n c ≡ record { good = c .good; marginal = c .marginal; bad = c .bad + n }
+unfolding add-units
+add-bad n c = refl
+
+pub add-marginal : (x n : ℕ) (c : Counts) → x ≢ 0 → x ≢ 2 → add-units x n c ≡ record { good = c .good; marginal = c .marginal + n; bad = c .bad }
+unfolding add-units
+add-marginal zero n c f g = absurd (f refl)
+add-marginal (suc zero) n c f g = refl
+add-marginal (suc (suc zero)) n c f g = absurd (g refl)
+add-marginal (suc (suc (suc x))) n c f g = refl
+
+-- d is c and n units more
+pub record More (n : ℕ) (c d : Counts) : Type 0 where
+  pub units : units d ≡ units c + n
+  pub bad-from : c .bad ≤ d .bad
+  pub bad-to : d .bad ≤ c .bad + n
+  pub nongood-from : nongood c ≤ nongood d
+  pub nongood-to : nongood d ≤ nongood c + n
+
+pub added : (x n : ℕ) (c : Counts) → More n c (add-units x n c)
+unfolding add-units
+added zero n c = omega arith
+added (suc zero) n c = omega arith
+added (suc (suc zero)) n c = omega arith
+added (suc (suc (suc x))) n c = omega arith
+
+-- ---- the counts of a list
+
+pub more : (c : Counts) (xs : List ℕ) → More (length xs) c (counts-after c xs)
+more c [] = omega arith
+more c (x ∷ xs) = let a = added x 1 c in let b = more (add-units x 1 c) xs in omega arith
+
+pub units-counts : (h : List ℕ) → units (counts h) ≡ length h
+unfolding counts
+units-counts h = omega (arith, more no-units h)
+
+pub after-append : (c : Counts) (h r : List ℕ) → counts-after c (h ++ r) ≡ counts-after (counts-after c h) r
+after-append c [] r = refl
+after-append c (x ∷ h) r = after-append (add-units x 1 c) h r
+
+pub counts-append : (h r : List ℕ) → counts (h ++ r) ≡ counts-after (counts h) r
+unfolding counts
+counts-append h r = after-append no-units h r
+
+-- n units of one class, one by one
+add-none : (x : ℕ) (c : Counts) → c ≡ add-units x 0 c
+unfolding add-units
+add-none zero c = λ i. record { good = sym (add-zero (c .good)) i; marginal = c .marginal; bad = c .bad }
+add-none (suc zero) c = λ i. record { good = c .good; marginal = sym (add-zero (c .marginal)) i; bad = c .bad }
+add-none (suc (suc zero)) c = λ i. record { good = c .good; marginal = c .marginal; bad = sym (add-zero (c .bad)) i }
+add-none (suc (suc (suc x))) c = λ i. record { good = c .good; marginal = sym (add-zero (c .marginal)) i; bad = c .bad }
+
+one-first : (m n : ℕ) → m + 1 + n ≡ m + suc n
+one-first m n = omega arith
+
+add-one-first : (x n : ℕ) (c : Counts) → add-units x n (add-units x 1 c) ≡ add-units x (suc n) c
+unfolding add-units
+add-one-first zero n c = λ i. record { good = one-first (c .good) n i; marginal = c .marginal; bad = c .bad }
+add-one-first (suc zero) n c = λ i. record { good = c .good; marginal = one-first (c .marginal) n i; bad = c .bad }
+add-one-first (suc (suc zero)) n c = λ i. record { good = c .good; marginal = c .marginal; bad = one-first (c .bad) n i }
+add-one-first (suc (suc (suc x))) n c = λ i. record { good = c .good; marginal = one-first (c .marginal) n i; bad = c .bad }
+
+pub after-replicate : (x n : ℕ) (c : Counts) → counts-after c (replicate n x) ≡ add-units x n c
+after-replicate x zero c = add-none x c
+after-replicate x (suc n) c = after-replicate x n (add-units x 1 c) ∙ add-one-first x n c

@@ -1,0 +1,148 @@
+-- The earliest stop's answer to a history is what its completions say: accepted or rejected exactly when all of them are.
+-- A history is decided by S units, and the empty one is not.
+-- Assumes nothing.
+use Prim.Native.Nat.{ℕ, zero, suc, _-_, _≤_, _<_}
+use mathlib.Core.Path.{_≡_, refl, sym, ap, _∙_}
+use mathlib.Core.Logic.{_↔_, _≢_}
+use mathlib.Core.List.{List, [], _∷_, _++_}
+use native.Mathlib.Omega.{arith}
+use native.Mathlib.Decide.{decLt}
+use lib.ListN.{length, take, replicate, length-append, length-replicate}
+use lib.Seq.{length-take-le, take-take, take-append-seam, take-all}
+use Rattle.plan.specs.declared.stopping.Answer.{Answer}
+use Rattle.plan.specs.declared.stopping.Answer.the-variants.{GoOn, Accept, Reject}
+use Rattle.plan.specs.Plan.{Stage, total}
+use Rattle.plan.specs.Counts.{units, no-units, add-units, counts}
+use Rattle.plan.specs.Stopping.{at-filled, completed, settled, earliest}
+use Rattle.plan.specs.Sample.{Classes, verdict, Completion, All-have}
+use Rattle.plan.specs.Promise.{History}
+use Rattle.plan.proofs.Order.{rank, top, bottom, accepts-worst, rejects-best, undecided, not-accepted, not-rejected}
+use Rattle.plan.proofs.Ends.{Each, each-both, first-mono, first-same, first-on, end-case}
+use Rattle.plan.proofs.Limits.{Limits, decides}
+use Rattle.plan.proofs.Prefix.{Ended, ended, worst, best, reached}
+
+-- ---- the completion by units of one class
+
+classes-append : (h r : List ℕ) → Classes h → Classes r → Classes (h ++ r)
+classes-append [] r c d = d
+classes-append (x ∷ h) r c d = (c .0, classes-append h r (c .1) d)
+
+classes-replicate : (n class : ℕ) → class ≤ 2 → Classes (replicate n class)
+classes-replicate zero class l = tt
+classes-replicate (suc n) class l = (l, classes-replicate n class l)
+
+pub classes-take : (y : ℕ) (h : List ℕ) → Classes h → Classes (take y h)
+classes-take zero h c = tt
+classes-take (suc y) [] c = tt
+classes-take (suc y) (x ∷ h) c = (c .0, classes-take y h (c .1))
+
+pub filled : (class : ℕ) (p : List Stage) (h : List ℕ) → class ≤ 2 → Classes h → length h ≤ total p
+    → Completion p h (h ++ replicate (total p - length h) class)
+filled class p h l c n = record {
+  complete = omega (arith, length-append h (replicate (total p - length h) class), length-replicate (total p - length h) class);
+  classes = classes-append h _ c (classes-replicate (total p - length h) class l);
+  begins = take-append-seam h (replicate (total p - length h) class);
+}
+
+-- ---- what comes before in a history is a history
+
+pub history-take : (p : List Stage) (h : List ℕ) (y : ℕ) → y ≤ length h → History p h → History p (take y h)
+history-take p h y l k =
+    let n : length (take y h) ≡ y = length-take-le y h l in
+    record {
+      classes = classes-take y h (k .classes);
+      undecided-before = λ z m. rw (take-take z y h (omega arith)) (k .undecided-before z (omega arith));
+    }
+
+-- ---- the states are right
+
+pub record Right (p : List Stage) (h : List ℕ) : Type 0 where
+  pub accepted : (earliest p (counts h) ≡ Accept) ↔ All-have p h Accept
+  pub rejected : (earliest p (counts h) ≡ Reject) ↔ All-have p h Reject
+
+module _ (p : List Stage) (h : List ℕ) (k : History p h) where
+  at-ends : Each (Ended (total p) h) 0 p
+  unfolding earliest
+  at-ends = ended (total p) h 0 p (omega arith) (λ y l m. k .undecided-before y m)
+
+  no-worse : (x : List ℕ) → Completion p h x → rank (completed 2 0 p (counts h)) ≤ rank (verdict p x)
+  unfolding verdict
+  no-worse x q =
+      first-mono (Ended (total p) h) _ _ (λ end s e. worst (total p) h x (q .begins) end s e (omega (arith, e .within, q .complete))) 0 p at-ends
+
+  no-better : (x : List ℕ) → Completion p h x → rank (verdict p x) ≤ rank (completed 0 0 p (counts h))
+  unfolding verdict
+  no-better x q =
+      first-mono (Ended (total p) h) _ _ (λ end s e. best (total p) h x (q .begins) end s e (omega (arith, e .within, q .complete))) 0 p at-ends
+
+  exact : (class : ℕ) → verdict p (h ++ replicate (total p - length h) class) ≡ completed class 0 p (counts h)
+  unfolding verdict
+  exact class = first-same (Ended (total p) h) _ _ (reached class (total p) h (total p - length h) (omega arith)) 0 p at-ends
+
+  right-within : length h ≤ total p → Right p h
+  unfolding earliest
+  right-within n =
+      let one : (class : ℕ) → class ≤ 2 → (v : Answer) → All-have p h v → completed class 0 p (counts h) ≡ v
+      = λ class l v f. sym (exact class) ∙ f _ (filled class p h l (k .classes) n) in
+      record {
+        accepted = (
+          λ e x q. top (verdict p x) (omega (arith, no-worse x q, ap rank (accepts-worst (completed 2 0 p (counts h)) (completed 0 0 p (counts h)) e))),
+          λ f. rw (one 2 (omega arith) Accept f),
+        );
+        rejected = (
+          λ e x q. bottom (verdict p x) (omega (arith, no-better x q, ap rank (rejects-best (completed 2 0 p (counts h)) (completed 0 0 p (counts h)) e))),
+          λ f. rw (one 2 (omega arith) Reject f, one 0 (omega arith) Reject f),
+        );
+      }
+
+-- all completions have one verdict, which is not to go on: then the history is decided
+pub settles : (p : List Stage) (h : List ℕ) → Right p h → (v : Answer) → v ≢ GoOn → All-have p h v → earliest p (counts h) ≡ v
+settles p h r GoOn n f = absurd (n refl)
+settles p h r Accept n f = r .accepted .1 f
+settles p h r Reject n f = r .rejected .1 f
+
+-- ---- a history is decided by S units
+
+module _ (p : List Stage) (l : Limits p) where
+  pub verdict-decides : (x : List ℕ) → verdict p x ≢ GoOn
+  unfolding verdict
+  verdict-decides x = decides (λ end. counts (take end x)) p l
+
+  only-itself : (h x : List ℕ) → length h ≡ total p → Completion p h x → x ≡ h
+  only-itself h x e q = sym (take-all (length h) x (omega (arith, q .complete))) ∙ q .begins
+
+  pub decided : (h : List ℕ) → History p h → length h ≡ total p → earliest p (counts h) ≢ GoOn
+  decided h k e g =
+      verdict-decides h (sym (settles p h (right-within p h k (omega arith)) (verdict p h) (verdict-decides h) (λ x q. ap (verdict p) (only-itself h x e q))) ∙ g)
+
+  pub no-longer : (h : List ℕ) → History p h → length h ≤ total p
+  no-longer h k = go (decLt (total p) (length h))
+    where
+      go : Dec (total p < length h) → length h ≤ total p
+      go (no m) = omega arith
+      go (yes m) = absurd (decided (take (total p) h) (history-take p h (total p) (omega arith) k) (length-take-le (total p) h (omega arith)) (k .undecided-before (total p) m))
+
+  pub right : (h : List ℕ) → History p h → Right p h
+  right h k = right-within p h k (no-longer h k)
+
+  -- ---- the empty history is undecided
+
+  worst-empty : (end : ℕ) (s : Stage) → s .accept2 < end → rank (at-filled 2 no-units end s) ≤ rank GoOn
+  unfolding add-units
+  worst-empty end s m = end-case 2 no-units end s (λ a. rank a ≤ 1) (λ n. omega arith) (λ n. not-accepted s (add-units 2 (end - units no-units) no-units) (omega arith))
+
+  best-empty : (end : ℕ) (s : Stage) → (1 ≤ s .reject1) × (1 ≤ s .reject2) → rank GoOn ≤ rank (at-filled 0 no-units end s)
+  unfolding add-units
+  best-empty end s m = end-case 0 no-units end s (λ a. 1 ≤ rank a) (λ n. omega arith) (λ n. not-rejected s (add-units 0 (end - units no-units) no-units) (omega arith) (omega arith))
+
+  pub empty : earliest p no-units ≡ GoOn
+  unfolding earliest
+  empty =
+      undecided (completed 2 0 p no-units) (completed 0 0 p no-units)
+      (omega (arith, first-mono (λ end s. s .accept2 < end) (at-filled 2 no-units) (λ end s. GoOn) worst-empty 0 p (l .below2), ap rank (first-on 0 p)))
+      (omega (
+        arith,
+        first-mono (λ end s. (1 ≤ s .reject1) × (1 ≤ s .reject2)) (λ end s. GoOn) (at-filled 0 no-units) best-empty 0 p
+            (each-both _ _ _ (λ end s a b. (a, b)) 0 p (l .positive1) (l .positive2)),
+        ap rank (first-on 0 p),
+      ))

@@ -1,0 +1,93 @@
+-- What the plan layer promises to the layers above it, of every admitted plan: statements alone. They are proved in
+-- proofs/Promise.antt, and they are all that the layers above use of this one.
+use Prim.Native.Nat.{ℕ, _+_, _-_, _*_, _≤_, _<_}
+use mathlib.Core.Path.{_≡_}
+use mathlib.Core.Logic.{_↔_, _≢_, _⊎_}
+use mathlib.Core.Bool.{_&&_}
+use mathlib.Core.List.{List, [], _∷_, _++_}
+use lib.ListN.{length, take, getD}
+use lib.Dec.{leb}
+use Rattle.plan.specs.declared.counts.Counts.{Counts}
+use Rattle.plan.specs.declared.stopping.Answer.{Answer}
+use Rattle.plan.specs.declared.stopping.Answer.the-variants.{GoOn, Accept, Reject}
+use Rattle.plan.specs.Plan.{Stage, stages, total, End, last-reject1, last-reject2}
+use Rattle.plan.specs.Counts.{units, nongood, nonbad, no-units, add-units, counts}
+use Rattle.plan.specs.Stopping.{accepts, uncurtailed, earliest}
+use Rattle.plan.specs.Sample.{Classes, Completion, All-have, Rule, Stops, Faithful}
+
+-- the earliest stop as a stopping rule, and the uncurtailed way as one
+abbrev pub earliest-rule : List Stage → Rule
+earliest-rule p h = earliest p (counts h)
+
+abbrev pub uncurtailed-rule : List Stage → Rule
+uncurtailed-rule p h = uncurtailed p (counts h)
+
+-- a history: classes, with no unit after its earliest stop
+pub record History (p : List Stage) (h : List ℕ) : Type 0 where
+  pub classes : Classes h
+  pub undecided-before : (y : ℕ) → y < length h → earliest p (counts (take y h)) ≡ GoOn
+
+-- 01's own words: y is the least number of units of the list x at which all completions have one uncurtailed verdict, and v is it
+pub record Least (p : List Stage) (x : List ℕ) (y : ℕ) (v : Answer) : Type 0 where
+  pub within : y ≤ length x
+  pub one-verdict : All-have p (take y x) v
+  pub least : (z : ℕ) → z < y → (u : Answer) → All-have p (take z x) u → ⊥
+
+-- no faithful rule stops sooner on a completion of h
+abbrev pub Best : List Stage → List ℕ → Type 0
+Best p h =
+    (rule : Rule) → Faithful p rule → (x : List ℕ) → Completion p h x → (y : ℕ) (v : Answer) → Stops rule x y v → length h ≤ y
+
+-- no stage ends after z units or more and before y units
+abbrev pub Same-stage : List Stage → ℕ → ℕ → Type 0
+Same-stage p z y = (e : ℕ) → End 0 p e → z ≤ e → y ≤ e
+
+-- what is known of an admitted run of words
+pub record Shape (w : List ℕ) : Type 0 where
+  pub whole : length w ≡ 5 * length (stages w)
+  pub some-stage : 1 ≤ length (stages w)
+  pub seven-stages : length (stages w) ≤ 7
+  pub some-unit : 1 ≤ total (stages w)
+  pub thousand-units : total (stages w) ≤ 1000
+  pub reject1-from : 1 ≤ last-reject1 (stages w)
+  pub reject1-to : last-reject1 (stages w) ≤ 60
+  pub reject2-from : 1 ≤ last-reject2 (stages w)
+  pub reject2-to : last-reject2 (stages w) ≤ last-reject1 (stages w)
+  pub reject1-at : last-reject1 (stages w) ≡ getD w (length w - 3) 0
+  pub reject2-at : last-reject2 (stages w) ≡ getD w (length w - 1) 0
+
+-- of every admitted plan with the stages p
+pub record Promise (p : List Stage) : Type 0 where
+  -- the states are right
+  pub accepted : (h : List ℕ) → History p h → (earliest p (counts h) ≡ Accept) ↔ All-have p h Accept
+  pub rejected : (h : List ℕ) → History p h → (earliest p (counts h) ≡ Reject) ↔ All-have p h Reject
+  -- a history is decided by S units, and the empty one is not
+  pub no-longer : (h : List ℕ) → History p h → length h ≤ total p
+  pub decided : (h : List ℕ) → History p h → length h ≡ total p → earliest p (counts h) ≢ GoOn
+  pub empty : earliest p no-units ≡ GoOn
+  -- no faithful rule stops sooner than the earliest stop, which is faithful itself
+  pub best : (h : List ℕ) → History p h → Best p h
+  pub faithful : Faithful p (earliest-rule p)
+  -- on every list, the earliest stop is that of 01's words
+  pub earliest-stop : (x : List ℕ) → Classes x → (y : ℕ) (v : Answer) → Stops (earliest-rule p) x y v ↔ Least p x y v
+  -- the uncurtailed way stops on every complete sample with the uncurtailed verdict
+  pub uncurtailed-stop : Faithful p (uncurtailed-rule p)
+  -- within a stage, what comes before an undecided history is undecided
+  pub within-stage : (h : List ℕ) (z : ℕ) → z ≤ length h → Same-stage p z (length h) → earliest p (counts h) ≡ GoOn → earliest p (counts (take z h)) ≡ GoOn
+  -- as many nongood or bad units as the last rejection number are rejected
+  pub rejects : (c : Counts) → units c ≤ total p → (last-reject1 p ≤ nongood c) ⊎ (last-reject2 p ≤ c .bad) → earliest p c ≡ Reject
+
+-- full's acceptance as 01 writes it: nonbad ≥ Si − a2 and good ≥ Si − a1
+abbrev pub Full-as-written : Type 0
+Full-as-written = (end : ℕ) (s : Stage) (c : Counts) →
+    accepts s (end - nonbad c) (end - c .good) ≡ (leb (end - s .accept2) (nonbad c) && leb (end - s .accept1) (c .good))
+
+-- counts, of every history
+pub record Counting : Type 0 where
+  pub empty : counts [] ≡ no-units
+  pub one-more : (h : List ℕ) (x : ℕ) → counts (h ++ (x ∷ [])) ≡ add-units x 1 (counts h)
+  pub length-of : (h : List ℕ) → units (counts h) ≡ length h
+  pub added : (x n : ℕ) (c : Counts) → units (add-units x n c) ≡ units c + n
+  pub good : (n : ℕ) (c : Counts) → add-units 0 n c ≡ record { good = c .good + n; marginal = c .marginal; bad = c .bad }
+  pub bad : (n : ℕ) (c : Counts) → add-units 2 n c ≡ record { good = c .good; marginal = c .marginal; bad = c .bad + n }
+  pub marginal : (x n : ℕ) (c : Counts) → x ≢ 0 → x ≢ 2 → add-units x n c ≡ record { good = c .good; marginal = c .marginal + n; bad = c .bad }

@@ -1,0 +1,36 @@
+// The units of each class so far.
+ghost use mathlib.Core.Path.{_≡_};
+ghost use Prim.Native.Nat.{_+_, _≤_};
+ghost use Rattle.plan.specs.Counts.{units, add-units};
+
+pub struct Counts {
+    pub good: u32,
+    pub marginal: u32,
+    pub bad: u32,
+}
+
+// n units more of one class. Every class but good (0) and bad (2) counts as marginal.
+pub fn add_units(class: u32, n: u32, c: Counts) -> Counts
+    requires { ⌜ units c + n ≤ 4294967295 ⌝ }
+    ensures { λ r. ⌜ r ≡ add-units class n c ⌝ }
+{
+    if class == 0 {
+        return Counts {
+            good: c.good + n,
+            marginal: c.marginal,
+            bad: c.bad,
+        };
+    }
+    if class == 2 {
+        return Counts {
+            good: c.good,
+            marginal: c.marginal,
+            bad: c.bad + n,
+        };
+    }
+    Counts {
+        good: c.good,
+        marginal: c.marginal + n,
+        bad: c.bad,
+    }
+}

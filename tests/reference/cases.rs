@@ -1,0 +1,194 @@
+//! The seeded cases: hand-written edges, then random plans with their lists.
+
+use crate::draw;
+use crate::earliest::{by_table, Table};
+use crate::edges::{self, A, B, KNOWN, NEAR_A, NEAR_B, ONE, SEVEN, THREE, TWO};
+use crate::plan::Plan;
+use crate::random::Random;
+use std::collections::HashSet;
+
+const SEED: u64 = 1_000_060;
+
+/// All case lines, each once.
+pub fn all() -> Vec<String> {
+    let mut cases = Cases {
+        lines: Vec::new(),
+        random: Random::new(SEED),
+    };
+    cases.known_lots();
+    cases.admission_edges();
+    cases.lists_at_limits();
+    cases.random_plans();
+    cases.random_words();
+    let mut seen = HashSet::new();
+    cases.lines.retain(|line| seen.insert(line.clone()));
+    cases.lines
+}
+
+struct Cases {
+    lines: Vec<String>,
+    random: Random,
+}
+
+impl Cases {
+    fn admission(&mut self, words: &[u32]) {
+        self.lines.push(format!("a{}", fields(words)));
+    }
+
+    fn earliest(&mut self, list: &[u8], words: &[u32]) {
+        let classes: String = list.iter().map(u8::to_string).collect();
+        self.listed(&format!(".{classes}"), words);
+    }
+
+    /// A list written as in a case line.
+    fn listed(&mut self, list: &str, words: &[u32]) {
+        self.lines.push(format!("e {list}{}", fields(words)));
+    }
+
+    fn known_lots(&mut self) {
+        for &(words, list, ..) in KNOWN {
+            self.listed(list, words);
+        }
+        for (words, lists) in [(A, NEAR_A), (B, NEAR_B)] {
+            lists.split(' ').for_each(|list| self.listed(list, words));
+        }
+    }
+
+    fn admission_edges(&mut self) {
+        for edge in edges::edges() {
+            self.admission(&edge.kept());
+            self.admission(&edge.broken());
+        }
+        for words in edges::runs() {
+            self.admission(&words);
+        }
+        for words in edges::WRAPS {
+            self.admission(words);
+            self.earliest(&[0, 1, 2, 0, 0], words);
+        }
+        self.earliest(&[], &[]);
+        self.earliest(&[0, 1, 2], &TWO[..7]);
+        for words in [A, B, ONE, TWO, THREE, SEVEN] {
+            self.borders(words);
+        }
+    }
+
+    /// Changes one word at a time and keeps the values on both sides of each
+    /// change between admitted and not admitted.
+    fn borders(&mut self, base: &[u32]) {
+        for index in 0..base.len() {
+            let with = |value: u32| {
+                let mut words = base.to_vec();
+                words[index] = value;
+                words
+            };
+            for value in 0..1100 {
+                let sides = [with(value), with(value + 1)];
+                let [here, next] = sides.each_ref().map(|side| Plan::admitted(side).is_some());
+                if here != next {
+                    sides.iter().for_each(|side| self.admission(side));
+                }
+            }
+        }
+    }
+
+    /// Lists for the hand-written plans, with S up to 1,000 and last r1 to 60.
+    fn lists_at_limits(&mut self) {
+        for words in [A, B, ONE, TWO, THREE, SEVEN] {
+            self.plain_lists(words);
+            (0..5).for_each(|_| self.lists(words));
+        }
+        for edge in edges::edges() {
+            self.lists(&edge.kept());
+            self.earliest(&[2, 0, 1], &edge.broken());
+        }
+    }
+
+    fn random_plans(&mut self) {
+        for (plans, least, most) in [(140, 1, 10), (98, 11, 70), (24, 800, 1000)] {
+            for round in 0..plans {
+                let units = self.random.between(least, most);
+                let words = draw::plan(&mut self.random, 1 + round % 7, units);
+                self.admission(&words);
+                let perturbed = self.perturbed(&words);
+                self.admission(&perturbed);
+                if round % 5 == 0 {
+                    self.plain_lists(&words);
+                }
+                self.lists(&words);
+            }
+        }
+    }
+
+    /// One word off by 1, or two words swapped.
+    fn perturbed(&mut self, words: &[u32]) -> Vec<u32> {
+        let mut words = words.to_vec();
+        let index = self.random.index(words.len());
+        let other = self.random.index(words.len());
+        match self.random.index(5) {
+            0 => words.swap(index, other),
+            1 | 2 => words[index] += 1,
+            _ => words[index] = words[index].abs_diff(1),
+        }
+        words
+    }
+
+    /// One class throughout, and the empty list.
+    fn plain_lists(&mut self, words: &[u32]) {
+        let Some(plan) = Plan::admitted(words) else {
+            return;
+        };
+        for class in 0..3 {
+            self.earliest(&vec![class; plan.units()], words);
+        }
+        self.earliest(&[], words);
+    }
+
+    /// A list of each random kind for an admitted plan.
+    fn lists(&mut self, words: &[u32]) {
+        let plan = Plan::admitted(words).expect("the plan is drawn as an admitted one");
+        let table = Table::new(&plan);
+        let random = &mut self.random;
+        let units = plan.units();
+        let length = random.index(units + 4);
+        let mixed = draw::mixed(random, &plan, length);
+        let near = draw::near_the_numbers(random, &plan);
+        let stage = &plan.stages[random.index(plan.stages.len())];
+        let end = stage.end as usize;
+        let held = draw::held(random, &plan, &table, end, units.min(end + 3));
+        let long = units + random.index(4);
+        let undecided = draw::held(random, &plan, &table, units + 1, long);
+        for list in [mixed, near, held, undecided] {
+            self.earliest(&list, words);
+            self.cut(&plan, &table, &list, words);
+        }
+    }
+
+    /// One in four times the list broken off at its stop or just before it.
+    fn cut(&mut self, plan: &Plan, table: &Table, list: &[u8], words: &[u32]) {
+        let Some((stop, _)) = by_table(plan, table, list) else {
+            return;
+        };
+        match self.random.index(8) {
+            0 => self.earliest(&list[..stop], words),
+            1 => self.earliest(&list[..stop - 1], words),
+            _ => {}
+        }
+    }
+
+    /// Any words, mostly whole stages.
+    fn random_words(&mut self) {
+        for _ in 0..120 {
+            let odd_words = self.random.pick(&[0, 0, 0, 0, 0, 0, 1, 4]);
+            let length = 5 * (1 + self.random.index(7)) + odd_words;
+            let most = self.random.pick(&[2, 6, 60, 1001, u32::MAX]);
+            let word = |_| self.random.between(0, most);
+            let words: Vec<u32> = (0..length).map(word).collect();
+            self.admission(&words);
+        }
+    }
+}
+
+fn fields(words: &[u32]) -> String {
+    words.iter().map(|word| format!(" {word}")).collect()
+}

@@ -1,0 +1,161 @@
+//! Random admitted plans and random lists of classes for them.
+
+use crate::earliest::Table;
+use crate::plan::{Counts, Plan, Stage, BAD, BOTH, NONGOOD};
+use crate::random::Random;
+
+/// The words of an admitted plan of S units and k stages, fewer where S is less
+/// than k. For a large S the last r1 is near 60, its greatest value.
+pub fn plan(random: &mut Random, k: usize, units: u32) -> Vec<u32> {
+    let k = k.min(units as usize);
+    let sizes = sizes(random, k, units);
+    // With several stages a + 1 < r before the last, so no r is below 2.
+    let least_r = if k > 1 { 2 } else { 1 };
+    let last_r1 = match units {
+        0..=99 => random.at_ends_or_between(least_r, units.min(60)),
+        _ => random.between(52, 60),
+    };
+    let last_r2 = random.at_ends_or_between(least_r, last_r1);
+    let (a1, r1) = row(random, last_r1, &vec![last_r1; k], &below_ends(&sizes));
+    let (a2, r2) = row(random, last_r2, &r1, &a1);
+    let stage = |i: usize| [sizes[i], a1[i], r1[i], a2[i], r2[i]];
+    (0..k).flat_map(stage).collect()
+}
+
+/// Si - 1 for each stage.
+fn below_ends(sizes: &[u32]) -> Vec<u32> {
+    let end = |i: usize| sizes[..=i].iter().sum::<u32>();
+    (0..sizes.len()).map(|i| end(i) - 1).collect()
+}
+
+/// k sizes of at least 1 with this sum.
+fn sizes(random: &mut Random, k: usize, units: u32) -> Vec<u32> {
+    let mut rest = units;
+    let mut sizes = Vec::new();
+    for left in (1..k as u32).rev() {
+        let even = (rest / (left + 1)).max(1);
+        let high = (2 * even).min(rest - left);
+        let size = random.between(1, high);
+        rest -= size;
+        sizes.push(size);
+    }
+    sizes.push(rest);
+    sizes
+}
+
+/// The acceptance and rejection numbers of one row, at most `a_most`, `r_most`.
+/// r is drawn backward from the last so that it never falls, then a forward and
+/// below r - 1. Neither r nor the given bounds fall, so there is always room.
+fn row(random: &mut Random, last_r: u32, r_most: &[u32], a_most: &[u32]) -> (Vec<u32>, Vec<u32>) {
+    let k = r_most.len();
+    let mut r = vec![last_r; k];
+    let mut a = vec![last_r - 1; k];
+    let least_r = random.at_ends_or_between(2, last_r.max(2));
+    for i in (0..k - 1).rev() {
+        let most = r[i + 1].min(r_most[i]);
+        r[i] = random.at_ends_or_between(least_r.min(most), most);
+    }
+    let mut low = 0;
+    for i in 0..k - 1 {
+        a[i] = random.at_ends_or_between(low, a_most[i].min(r[i] - 2));
+        low = a[i];
+    }
+    (a, r)
+}
+
+/// Weights of the classes: good, bad or marginal prevailing, mixed, and without
+/// marginal or without bad units.
+const MIXES: [[u32; 3]; 8] = [
+    [90, 5, 5],
+    [60, 20, 20],
+    [1, 1, 1],
+    [10, 10, 80],
+    [10, 80, 10],
+    [3, 0, 1],
+    [3, 1, 0],
+    [1, 1, 0],
+];
+
+/// A list with a fixed mix, or with one that brings S units near the last
+/// rejection numbers.
+pub fn mixed(random: &mut Random, plan: &Plan, length: usize) -> Vec<u8> {
+    let mix = if random.one_in(2) {
+        random.pick(&MIXES)
+    } else {
+        fitting_mix(plan)
+    };
+    (0..length).map(|_| random.class(mix)).collect()
+}
+
+fn fitting_mix(plan: &Plan) -> [u32; 3] {
+    let Stage { end, r, .. } = plan.last();
+    let good = end - r[NONGOOD];
+    [good as u32, (r[NONGOOD] - r[BAD]) as u32, r[BAD] as u32]
+}
+
+/// A complete sample whose counts at each stage end are at or next to the
+/// stage's numbers, as far as the stage's size lets them. Before one stage,
+/// drawn at random, they are such that the plan mostly goes on.
+pub fn near_the_numbers(random: &mut Random, plan: &Plan) -> Vec<u8> {
+    let aimed = random.index(plan.stages.len());
+    let mut sample = Vec::new();
+    for (i, stage) in plan.stages.iter().enumerate() {
+        let ([a1, a2], [r1, r2]) = (stage.a, stage.r);
+        let [nongood, bad] = if i < aimed {
+            [[a1 + 1, a1 + 1, a1 + 1, r1 - 1], [0, a2, a2 + 1, r2 - 1]]
+        } else {
+            [[a1, a1 + 1, r1 - 1, r1], [a2, a2 + 1, r2 - 1, r2]]
+        };
+        let aim = [random.pick(&nongood), random.pick(&bad)];
+        let mut units = units_up_to(aim, Counts::of(&sample), stage.size);
+        random.shuffle(&mut units);
+        sample.extend(units);
+    }
+    sample
+}
+
+/// Units of one stage that bring the counts before it to the aim.
+fn units_up_to(aim: [u64; 2], before: Counts, size: u64) -> Vec<u8> {
+    let nongood = aim[NONGOOD].saturating_sub(before.nongood).min(size);
+    let bad = aim[BAD].saturating_sub(before.bad).min(nongood);
+    let mut units = vec![0; size as usize];
+    units[..nongood as usize].fill(1);
+    units[..bad as usize].fill(2);
+    units
+}
+
+/// A list of this length that stays undecided up to the unit before `until`
+/// where it can. From there on a unit decides where it can.
+pub fn held(
+    random: &mut Random,
+    plan: &Plan,
+    table: &Table,
+    until: usize,
+    length: usize,
+) -> Vec<u8> {
+    let mix = random.pick(&[
+        fitting_mix(plan),
+        [1, 1, 1],
+        [20, 1, 1],
+        [1, 0, 0],
+        [0, 1, 3],
+    ]);
+    let mut list = Vec::new();
+    let mut counts = Counts::default();
+    for y in 1..=length {
+        let suits = |class: &u8| {
+            let undecided = y < plan.units() && table.at(y, counts.after(*class)) == BOTH;
+            undecided == (y < until)
+        };
+        let suiting: Vec<u8> = (0..3).filter(suits).collect();
+        let drawn = random.class(mix);
+        let class = if suiting.is_empty() || suiting.contains(&drawn) {
+            drawn
+        } else {
+            random.pick(&suiting)
+        };
+        counts = counts.after(class);
+        list.push(class);
+    }
+    list
+}

@@ -1,0 +1,62 @@
+//! A second implementation of 01, the scope document, that shares no code with
+//! the library: the test oracle. Built from the repository's root by
+//!
+//!     rustc -O --edition 2021 -o target/reference tests/reference/main.rs
+//!
+//! - `reference cases` writes the seeded cases on stdout, the same at each run.
+//! - `reference answers` reads case lines on stdin and writes one answer line each.
+//! - `reference stats` says on stderr what the seeded cases cover.
+//! - `reference selftest` checks this program itself.
+//!
+//! A new kind of case needs a variant in answers.rs and its lines in cases.rs.
+
+mod answers;
+mod cases;
+mod draw;
+mod earliest;
+mod edges;
+mod plan;
+mod random;
+mod selftest;
+mod stats;
+
+use std::io::{self, BufRead, BufWriter, Write};
+use std::process::ExitCode;
+
+fn main() -> ExitCode {
+    let done = match std::env::args().nth(1).as_deref() {
+        Some("cases") => write_cases(),
+        Some("answers") => write_answers(),
+        Some("stats") => stats::write(),
+        Some("selftest") => selftest::run(),
+        _ => Err("usage: reference cases | answers | stats | selftest".to_string()),
+    };
+    match done {
+        Ok(()) => ExitCode::SUCCESS,
+        Err(message) => {
+            eprintln!("reference: {message}");
+            ExitCode::FAILURE
+        }
+    }
+}
+
+fn write_cases() -> Result<(), String> {
+    write_lines(cases::all().into_iter().map(Ok))
+}
+
+fn write_answers() -> Result<(), String> {
+    let mut answerer = answers::Answerer::new();
+    write_lines(io::stdin().lock().lines().map(|line| {
+        let line = line.map_err(|error| error.to_string())?;
+        answerer.answer(&line)
+    }))
+}
+
+/// Writes lines up to the first error, so that what was answered is on stdout.
+fn write_lines(lines: impl Iterator<Item = Result<String, String>>) -> Result<(), String> {
+    let mut out = BufWriter::new(io::stdout().lock());
+    for line in lines {
+        writeln!(out, "{}", line?).map_err(|error| error.to_string())?;
+    }
+    out.flush().map_err(|error| error.to_string())
+}

@@ -1,0 +1,95 @@
+//! Checks of this program itself.
+
+use crate::answers::classes;
+use crate::draw;
+use crate::earliest::{by_completions, by_table, Stop, Table};
+use crate::edges::{edges, runs, A, B, KNOWN, ONE, SEVEN, THREE, TWO, WRAPS};
+use crate::plan::{broken, Plan};
+use crate::random::Random;
+
+pub fn run() -> Result<(), String> {
+    known_lots()?;
+    admission_edges()?;
+    let plans = 4000;
+    let stops = random_lists(plans)?;
+    eprintln!("selftest passed: {plans} random plans, {stops} stops on their lists");
+    Ok(())
+}
+
+/// The rows of 01 "Known lots" that say or imply an earliest stop.
+fn known_lots() -> Result<(), String> {
+    for &(words, list, units, state) in KNOWN {
+        let plan = Plan::admitted(words).ok_or("plans A and B are admitted")?;
+        let list = classes(list).ok_or("a list is a dot and classes")?;
+        let stop = two_ways(&plan, &Table::new(&plan), &list)?;
+        if stop.unwrap_or((0, 0)) != (units, state) {
+            return Err(format!("known lot {list:?} of {words:?} stops at {stop:?}"));
+        }
+    }
+    Ok(())
+}
+
+/// The stop of a list, the same by completions and by the table.
+fn two_ways(plan: &Plan, table: &Table, list: &[u8]) -> Result<Stop, String> {
+    let stop = by_completions(plan, list);
+    if stop == by_table(plan, table, list) {
+        Ok(stop)
+    } else {
+        Err(format!("the two ways differ on {list:?} of {plan:?}"))
+    }
+}
+
+fn admission_edges() -> Result<(), String> {
+    for words in [A, B, ONE, TWO, THREE, SEVEN] {
+        expect(words, None)?;
+    }
+    for edge in edges() {
+        expect(&edge.kept(), None)?;
+        expect(&edge.broken(), Some(edge.rule))?;
+    }
+    for words in runs() {
+        if words.len() % 5 != 0 || words.len() > 35 {
+            expect(&words, Some("k from 1 to 7"))?;
+        }
+    }
+    match WRAPS.iter().find(|words| broken(words).is_empty()) {
+        Some(words) => Err(format!("{words:?} is admitted")),
+        None => Ok(()),
+    }
+}
+
+/// Whether a plan breaks no rule, or this rule among others.
+fn expect(words: &[u32], rule: Option<&str>) -> Result<(), String> {
+    let rules = broken(words);
+    let met = match rule {
+        None => rules.is_empty(),
+        Some(rule) => rules.contains(&rule),
+    };
+    if met {
+        Ok(())
+    } else {
+        Err(format!("{words:?} breaks {rules:?} and should {rule:?}"))
+    }
+}
+
+/// Random small plans, three lists each. Gives the number of stops reached.
+fn random_lists(plans: usize) -> Result<usize, String> {
+    let random = &mut Random::new(7);
+    let mut stops = 0;
+    for round in 0..plans {
+        let units = random.between(1, 9);
+        let words = draw::plan(random, 1 + round % 7, units);
+        let plan = Plan::admitted(&words).ok_or(format!("{words:?} should be admitted"))?;
+        let table = Table::new(&plan);
+        let length = random.index(plan.units() + 2);
+        let lists = [
+            draw::mixed(random, &plan, length),
+            draw::near_the_numbers(random, &plan),
+            draw::held(random, &plan, &table, plan.units(), length),
+        ];
+        for list in lists {
+            stops += usize::from(two_ways(&plan, &table, &list)?.is_some());
+        }
+    }
+    Ok(stops)
+}

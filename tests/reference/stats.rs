@@ -1,0 +1,86 @@
+//! What the seeded cases cover, so that one can see that they are telling.
+
+use crate::answers::{Answerer, Case};
+use crate::cases;
+use crate::earliest::{few_completions, Stop};
+use crate::plan::{broken, Plan};
+use std::collections::BTreeMap;
+
+/// Counts by a text that says what is counted.
+type Tally = BTreeMap<String, usize>;
+
+pub fn write() -> Result<(), String> {
+    let lines = cases::all();
+    let bytes: usize = lines.iter().map(|line| line.len() + 1).sum();
+    let mut answerer = Answerer::new();
+    let mut tally = Tally::new();
+    for line in &lines {
+        match Case::parse(line)? {
+            Case::Admission(words) => admission(&mut tally, &words),
+            Case::Earliest(list, words) => {
+                let stop = answerer.earliest(&list, &words);
+                earliest(&mut tally, &list, &words, stop);
+            }
+        }
+    }
+    eprintln!("{} lines, {bytes} bytes", lines.len());
+    for (what, count) in tally {
+        eprintln!("{count:6}  {what}");
+    }
+    Ok(())
+}
+
+fn count(tally: &mut Tally, what: String) {
+    *tally.entry(what).or_default() += 1;
+}
+
+fn admission(tally: &mut Tally, words: &[u32]) {
+    let mut rules = broken(words);
+    rules.dedup();
+    if rules.is_empty() {
+        count(tally, format!("a: admitted, k = {}", words.len() / 5));
+    } else {
+        count(tally, "a: not admitted".to_string());
+    }
+    for rule in &rules {
+        let others = if rules.len() == 1 {
+            "alone"
+        } else {
+            "with others"
+        };
+        count(tally, format!("a: breaks {others}: {rule}"));
+    }
+}
+
+fn earliest(tally: &mut Tally, list: &[u8], words: &[u32], stop: Option<Stop>) {
+    let Some(plan) = Plan::admitted(words) else {
+        return count(tally, "e: not admitted".to_string());
+    };
+    let units = plan.units();
+    let size = match units {
+        0..=10 => "S to 10",
+        11..=99 => "S 11 to 99",
+        _ => "S from 100",
+    };
+    count(tally, format!("e: {size}"));
+    if list.len() > units {
+        count(tally, "e: list longer than S".to_string());
+    }
+    let Some((y, state)) = stop.flatten() else {
+        return count(tally, format!("e: undecided, {size}"));
+    };
+    let verdict = ["undecided", "accepted", "rejected"][usize::from(state)];
+    let ends: Vec<usize> = plan.stages.iter().map(|stage| stage.end as usize).collect();
+    let stage = 1 + ends.iter().filter(|&&end| end < y).count();
+    count(tally, format!("e: {verdict}, {size}"));
+    count(
+        tally,
+        format!("e: {verdict} in stage {stage} of {}", ends.len()),
+    );
+    if ends.contains(&y) {
+        count(tally, format!("e: {verdict} at a stage end, {size}"));
+    }
+    if few_completions(units, y) {
+        count(tally, format!("e: stop also by completions, {size}"));
+    }
+}
