@@ -9,7 +9,7 @@ use native.Mathlib.Omega.{arith}
 use lib.ListN.{length, take, drop, take-append-drop}
 use lib.Seq.{length-take-le}
 use Rattle.plan.specs.declared.counts.Counts.{Counts}
-use Rattle.plan.specs.declared.stopping.Answer.the-variants.{GoOn, Reject}
+use Rattle.plan.specs.declared.stage.Answer.the-variants.{GoOn, Reject}
 use Rattle.plan.specs.Plan.{Stage, total, last-reject1, last-reject2}
 use Rattle.plan.specs.Counts.{units, nongood, add-units, counts-after, counts}
 use Rattle.plan.specs.Stopping.{at-filled, completed, earliest}

@@ -9,8 +9,8 @@ use native.Mathlib.Decide.{decLt}
 use lib.ListN.{length}
 use borrow.Author.Tests.{lt-ltb, le-ltb}
 use Rattle.plan.specs.declared.counts.Counts.{Counts}
-use Rattle.plan.specs.declared.stopping.Answer.{Answer}
-use Rattle.plan.specs.declared.stopping.Answer.the-variants.{GoOn, Accept, Reject}
+use Rattle.plan.specs.declared.stage.Answer.{Answer}
+use Rattle.plan.specs.declared.stage.Answer.the-variants.{GoOn, Accept, Reject}
 use Rattle.plan.specs.Plan.{Stage, total, End}
 use Rattle.plan.specs.Counts.{units, add-units}
 use Rattle.plan.specs.Stopping.{or-else, at-end, first-answer, at-filled}

@@ -1,20 +1,35 @@
--- `completed` at the first stage of a run of words. Assumes nothing.
+-- `completed` and `current` at the first stage of a run of words. Assumes nothing.
 use Prim.Native.Nat.{ℕ, _+_, _≤_, _<_}
-use mathlib.Core.Path.{_≡_, sym, ap}
+use mathlib.Core.Path.{_≡_}
 use mathlib.Core.List.{List}
 use lib.ListN.{length}
+use borrow.Author.Tests.{le-leb, lt-leb}
 use Rattle.plan.specs.declared.counts.Counts.{Counts}
-use Rattle.plan.specs.declared.stopping.Answer.{Answer}
-use Rattle.plan.specs.declared.stopping.Answer.the-variants.{GoOn}
+use Rattle.plan.specs.declared.stage.Answer.{Answer}
+use Rattle.plan.specs.declared.stage.Answer.the-variants.{GoOn}
+use Rattle.plan.specs.declared.ways.StageWay.{StageWay}
 use Rattle.plan.specs.Plan.{stages, first}
-use Rattle.plan.specs.Stopping.{completed, at-filled, or-else}
+use Rattle.plan.specs.Counts.{units}
+use Rattle.plan.specs.Stopping.{completed, at-filled, or-else, at-stage, current}
 use Rattle.plan.proofs.Stages.{after, stages-more, stages-none}
 
 module _ (w : List ℕ) (class before : ℕ) (c : Counts) where
-  pub no-stage-left : length w < 5 → completed class before (stages w) c ≡ GoOn
-  no-stage-left h = rw (stages-none w h)
+  pub completed-none : length w < 5 → completed class before (stages w) c ≡ GoOn
+  completed-none h = rw (stages-none w h)
 
   -- v is the answer at the first stage's end
-  pub at-first-stage : 5 ≤ length w → (v : Answer) → v ≡ at-filled class c (before + first w .size) (first w) →
+  pub completed-first : 5 ≤ length w → (v : Answer) → v ≡ at-filled class c (before + first w .size) (first w) →
       completed class before (stages w) c ≡ or-else v (completed class (before + first w .size) (stages (after w)) c)
-  at-first-stage h v e = rw (stages-more w h, e)
+  completed-first h v e = rw (stages-more w h, e)
+
+module _ (w : List ℕ) (way : StageWay) (before : ℕ) (c : Counts) where
+  pub current-none : length w < 5 → current (at-stage way) before (stages w) c ≡ GoOn
+  current-none h = rw (stages-none w h)
+
+  pub current-first : 5 ≤ length w → units c ≤ before + first w .size →
+      current (at-stage way) before (stages w) c ≡ at-stage way (before + first w .size) (first w) c
+  current-first h l = rw (stages-more w h, le-leb (units c) (before + first w .size) l)
+
+  pub current-later : 5 ≤ length w → before + first w .size < units c →
+      current (at-stage way) before (stages w) c ≡ current (at-stage way) (before + first w .size) (stages (after w)) c
+  current-later h l = rw (stages-more w h, lt-leb (units c) (before + first w .size) l)

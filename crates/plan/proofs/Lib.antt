@@ -6,6 +6,7 @@ mod Rows
 mod Words
 mod Whole
 mod FirstStage
+mod Answers
 mod Order
 mod Ends
 mod Limits

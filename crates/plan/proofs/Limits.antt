@@ -12,8 +12,8 @@ use lib.Seq.{getD-append-add}
 use lib.Dec.{leb, ltb, eqb}
 use borrow.Author.Tests.{leb-true, leb-false, ltb-true, le-leb, eqb-true}
 use Rattle.plan.specs.declared.counts.Counts.{Counts}
-use Rattle.plan.specs.declared.stopping.Answer.{Answer}
-use Rattle.plan.specs.declared.stopping.Answer.the-variants.{GoOn, Accept, Reject}
+use Rattle.plan.specs.declared.stage.Answer.{Answer}
+use Rattle.plan.specs.declared.stage.Answer.the-variants.{GoOn, Accept, Reject}
 use Rattle.plan.specs.Plan.{Stage, stages, first, total, each, never-falls, apart, below-ends, last, last-reject1, last-reject2, rules, admitted}
 use Rattle.plan.specs.Counts.{nongood}
 use Rattle.plan.specs.Promise.{Shape}

@@ -11,7 +11,7 @@ use lib.Seq.{length-take-le, take-take, take-append-add, take-append-seam}
 use lib.Dec.{ltb}
 use borrow.Author.Tests.{le-ltb}
 use Rattle.plan.specs.declared.counts.Counts.{Counts}
-use Rattle.plan.specs.declared.stopping.Answer.the-variants.{GoOn}
+use Rattle.plan.specs.declared.stage.Answer.the-variants.{GoOn}
 use Rattle.plan.specs.Plan.{Stage, total}
 use Rattle.plan.specs.Counts.{units, add-units, counts-after, counts}
 use Rattle.plan.specs.Stopping.{at-end, at-filled, completed, settled}

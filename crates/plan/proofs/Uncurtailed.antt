@@ -12,11 +12,11 @@ use lib.Seq.{length-take-le}
 use lib.Dec.{leb}
 use borrow.Author.Tests.{leb-true, le-leb, lt-leb, eq-eqb, ne-eqb}
 use Rattle.plan.specs.declared.counts.Counts.{Counts}
-use Rattle.plan.specs.declared.stopping.Answer.{Answer}
-use Rattle.plan.specs.declared.stopping.Answer.the-variants.{GoOn, Accept, Reject}
+use Rattle.plan.specs.declared.stage.Answer.{Answer}
+use Rattle.plan.specs.declared.stage.Answer.the-variants.{GoOn, Accept, Reject}
 use Rattle.plan.specs.Plan.{Stage, total}
 use Rattle.plan.specs.Counts.{units, counts}
-use Rattle.plan.specs.Stopping.{or-else, at-end, first-answer, current, uncurtailed-at, uncurtailed}
+use Rattle.plan.specs.Stopping.{or-else, at-end, first-answer, current, uncurtailed-at, staged}
 use Rattle.plan.specs.Sample.{verdict, Faithful}
 use Rattle.plan.specs.Promise.{uncurtailed-rule}
 use Rattle.plan.proofs.Units.{units-counts}
@@ -102,7 +102,7 @@ module _ (x : List ℕ) where
       go Reject e n later = ends-here before s rest (leb-true _ _ (sizes .0)) (omega arith) Reject e
 
 pub uncurtailed-stop : (p : List Stage) → Limits p → Faithful p (uncurtailed-rule p)
-unfolding uncurtailed verdict
+unfolding staged verdict
 uncurtailed-stop p l x q =
     let t = stop x 0 p (l .sizes) (omega (arith, q .complete)) (verdict-decides p l x) in
     (t .at, record { within = t .within; there = t .there; decides = verdict-decides p l x; first = t .first })

@@ -9,8 +9,8 @@ use native.Mathlib.Omega.{arith}
 use native.Mathlib.Decide.{decLt}
 use lib.ListN.{length, take, replicate, length-append, length-replicate}
 use lib.Seq.{length-take-le, take-take, take-append-seam, take-all}
-use Rattle.plan.specs.declared.stopping.Answer.{Answer}
-use Rattle.plan.specs.declared.stopping.Answer.the-variants.{GoOn, Accept, Reject}
+use Rattle.plan.specs.declared.stage.Answer.{Answer}
+use Rattle.plan.specs.declared.stage.Answer.the-variants.{GoOn, Accept, Reject}
 use Rattle.plan.specs.Plan.{Stage, total}
 use Rattle.plan.specs.Counts.{units, no-units, add-units, counts}
 use Rattle.plan.specs.Stopping.{at-filled, completed, settled, earliest}

@@ -8,11 +8,12 @@ use mathlib.Core.List.{List, [], _∷_, _++_}
 use lib.ListN.{length, take, getD}
 use lib.Dec.{leb}
 use Rattle.plan.specs.declared.counts.Counts.{Counts}
-use Rattle.plan.specs.declared.stopping.Answer.{Answer}
-use Rattle.plan.specs.declared.stopping.Answer.the-variants.{GoOn, Accept, Reject}
+use Rattle.plan.specs.declared.stage.Answer.{Answer}
+use Rattle.plan.specs.declared.stage.Answer.the-variants.{GoOn, Accept, Reject}
+use Rattle.plan.specs.declared.ways.StageWay.the-variants.{Uncurtailed}
 use Rattle.plan.specs.Plan.{Stage, stages, total, End, last-reject1, last-reject2}
 use Rattle.plan.specs.Counts.{units, nongood, nonbad, no-units, add-units, counts}
-use Rattle.plan.specs.Stopping.{accepts, uncurtailed, earliest}
+use Rattle.plan.specs.Stopping.{accepts, staged, earliest}
 use Rattle.plan.specs.Sample.{Classes, Completion, All-have, Rule, Stops, Faithful}
 
 -- the earliest stop as a stopping rule, and the uncurtailed way as one
@@ -20,7 +21,7 @@ abbrev pub earliest-rule : List Stage → Rule
 earliest-rule p h = earliest p (counts h)
 
 abbrev pub uncurtailed-rule : List Stage → Rule
-uncurtailed-rule p h = uncurtailed p (counts h)
+uncurtailed-rule p h = staged Uncurtailed p (counts h)
 
 -- a history: classes, with no unit after its earliest stop
 pub record History (p : List Stage) (h : List ℕ) : Type 0 where

@@ -4,8 +4,12 @@ use mathlib.Core.Bool.{Bool, cond, _&&_, _||_}
 use mathlib.Core.List.{List, [], _∷_}
 use lib.Dec.{leb, ltb, eqb}
 use Rattle.plan.specs.declared.counts.Counts.{Counts}
-use Rattle.plan.specs.declared.stopping.Answer.{Answer}
-use Rattle.plan.specs.declared.stopping.Answer.the-variants.{GoOn, Accept, Reject}
+use Rattle.plan.specs.declared.stage.Answer.{Answer}
+use Rattle.plan.specs.declared.stage.Answer.the-variants.{GoOn, Accept, Reject}
+use Rattle.plan.specs.declared.ways.StageWay.{StageWay}
+use Rattle.plan.specs.declared.ways.StageWay.the-variants.{Uncurtailed, Semi, Full}
+use Rattle.plan.specs.declared.ways.Way.{Way}
+use Rattle.plan.specs.declared.ways.Way.the-variants.{Staged, Earliest}
 use Rattle.plan.specs.Plan.{Stage}
 use Rattle.plan.specs.Counts.{units, nongood, nonbad, add-units}
 
@@ -50,14 +54,13 @@ abbrev pub current : (ℕ → Stage → Counts → Answer) → ℕ → List Stag
 current way before [] c = GoOn
 current way before (s ∷ rest) c = cond (leb (units c) (before + s .size)) (way (before + s .size) s c) (current way (before + s .size) rest c)
 
-unfoldable pub uncurtailed : List Stage → Counts → Answer
-uncurtailed p c = current uncurtailed-at 0 p c
+abbrev pub at-stage : StageWay → ℕ → Stage → Counts → Answer
+at-stage Uncurtailed = uncurtailed-at
+at-stage Semi = semi-at
+at-stage Full = full-at
 
-unfoldable pub semi : List Stage → Counts → Answer
-semi p c = current semi-at 0 p c
-
-unfoldable pub full : List Stage → Counts → Answer
-full p c = current full-at 0 p c
+unfoldable pub staged : StageWay → List Stage → Counts → Answer
+staged way p c = current (at-stage way) 0 p c
 
 -- ---- earliest: by the worst and the best case (01: the far ends of completion)
 
@@ -87,3 +90,9 @@ settled GoOn best = only-reject best
 
 unfoldable pub earliest : List Stage → Counts → Answer
 earliest p c = settled (completed 2 0 p c) (completed 0 0 p c)
+
+-- ---- the four ways
+
+abbrev pub answer : Way → List Stage → Counts → Answer
+answer (Staged way) p c = staged way p c
+answer Earliest p c = earliest p c

@@ -1,13 +1,18 @@
-// Sampling plans: which are admitted, and the earliest moment at which a plan's verdict is settled.
+// Sampling plans: which are admitted, and the four ways to stop inspection, the earliest among them.
 // A plan is a run of words, five to a stage: size, then acceptance and rejection number of nongood
 // units, then those of bad units. Document 01, "Plan" and "Four ways to stop".
 mod admission;
+mod completion;
 mod counts;
-mod stopping;
+mod stage;
+mod ways;
 
 pub use admission::admitted;
+pub use completion::earliest;
 pub use counts::Counts;
 pub use counts::add_units;
-pub use stopping::Answer;
-pub use stopping::earliest;
-pub use stopping::state;
+pub use stage::Answer;
+pub use stage::state;
+pub use ways::StageWay;
+pub use ways::Way;
+pub use ways::answer;

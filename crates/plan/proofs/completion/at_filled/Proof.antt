@@ -7,8 +7,8 @@ use Rattle.plan.specs.Counts.{units}
 use Rattle.plan.specs.Plan.{first}
 use Rattle.plan.specs.Stopping.{at-end}
 use Rattle.plan.proofs.Units.{added}
-use Rattle.plan.proofs.stopping.at_filled.Statement.{statement}
-use Rattle.plan.proofs.stopping.at_filled.Tie as tie
+use Rattle.plan.proofs.completion.at_filled.Statement.{statement}
+use Rattle.plan.proofs.completion.at_filled.Tie as tie
 
 returns : tie.Need-returns
 returns c = rw (lt-ltb _ _ (c .if1 .taken))

@@ -6,13 +6,13 @@ use mathlib.Core.Path.{_≡_, refl, sym, ap, ap₂, _∙_}
 use mathlib.Core.List.{List}
 use native.Mathlib.Omega.{arith}
 use Rattle.plan.specs.declared.counts.Counts.{Counts}
-use Rattle.plan.specs.declared.stopping.Answer.{Answer}
-use Rattle.plan.specs.declared.stopping.Answer.the-variants.{GoOn, Accept, Reject}
+use Rattle.plan.specs.declared.stage.Answer.{Answer}
+use Rattle.plan.specs.declared.stage.Answer.the-variants.{GoOn, Accept, Reject}
 use Rattle.plan.specs.Plan.{Stage, stages}
 use Rattle.plan.specs.Stopping.{completed, settled, only-reject, earliest}
-use Rattle.plan.proofs.stopping.Answer.{the-type}
-use Rattle.plan.proofs.stopping.earliest.Statement.{statement}
-use Rattle.plan.proofs.stopping.earliest.Tie as tie
+use Rattle.plan.proofs.stage.Answer.{the-type}
+use Rattle.plan.proofs.completion.earliest.Statement.{statement}
+use Rattle.plan.proofs.completion.earliest.Tie as tie
 
 -- an answer that is none of Accept, none of Reject
 not-accept : (a b : Answer) → (tagOf the-type a ≡ 0) ⊎ (tagOf the-type a ≡ 2) → settled a b ≡ only-reject b

@@ -2,54 +2,16 @@
 // the best case (every further unit good) is rejected. Document 01, "Four ways to stop".
 use crate::counts::Counts;
 use crate::counts::add_units;
+use crate::stage::Answer;
+use crate::stage::at_end;
 ghost use mathlib.Core.Path.{_≡_};
 ghost use Prim.Native.Nat.{_+_, _≤_};
 ghost use lib.ListN.{length};
 ghost use Rattle.plan.specs.Counts.{units};
 ghost use Rattle.plan.specs.Plan.{stages, first, total};
-ghost use Rattle.plan.specs.Stopping.{state, at-end, at-filled, completed, earliest};
+ghost use Rattle.plan.specs.Stopping.{at-filled, completed, earliest};
 
-// What a stopping rule answers to the units so far.
-pub enum Answer {
-    GoOn,
-    Accept,
-    Reject,
-}
-
-// The number of a state: 0 undecided, 1 accepted, 2 rejected.
-pub fn state(a: Answer) -> u32
-    ensures { λ r. ⌜ r ≡ state a ⌝ }
-{
-    match a {
-        Answer::GoOn => 0,
-        Answer::Accept => 1,
-        Answer::Reject => 2,
-    }
-}
-
-// The uncurtailed answer at the end of the plan's first stage.
-fn at_end(plan: &[u32], c: Counts) -> Answer
-    requires { ⌜ (5 ≤ length (now plan)) × (units c ≤ 1000) ⌝ }
-    ensures { λ r. ⌜ r ≡ at-end (first (now (plan .entry))) c ⌝ }
-{
-    let bad = c.bad;
-    let nongood = c.marginal + bad;
-    if plan[4] <= bad {
-        return Answer::Reject;
-    }
-    if plan[2] <= nongood {
-        return Answer::Reject;
-    }
-    if plan[3] < bad {
-        return Answer::GoOn;
-    }
-    if plan[1] < nongood {
-        return Answer::GoOn;
-    }
-    Answer::Accept
-}
-
-// The same where every unit after c is of one class and the stage ends after `end` units.
+// The answer at the first stage's end, after `end` units, where every unit after c is of one class.
 // A stage that has ended before c went on.
 fn at_filled(plan: &[u32], class: u32, end: u32, c: Counts) -> Answer
     requires { ⌜ (5 ≤ length (now plan)) × (units c ≤ 1000) × (end ≤ 1000) ⌝ }

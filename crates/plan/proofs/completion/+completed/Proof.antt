@@ -6,15 +6,15 @@ use mathlib.Core.Path.{sym, _∙_}
 use lib.ListN.{length}
 use borrow.Fn.Kinds.{In}
 use borrow.Fn.PlainCycle.{Measures, is, falls, and}
-use Rattle.plan.specs.declared.stopping.Answer.the-variants.{GoOn, Accept, Reject}
+use Rattle.plan.specs.declared.stage.Answer.the-variants.{GoOn, Accept, Reject}
 use Rattle.plan.proofs.Stages.{total-more}
-use Rattle.plan.proofs.FirstStage.{no-stage-left, at-first-stage}
-use Rattle.plan.proofs.stopping.completed.Reads as completed
-use Rattle.plan.proofs.stopping.completed.Kinds as kinds
-use Rattle.plan.proofs.stopping.+completed.Lts-completed as lts
-use Rattle.plan.proofs.stopping.at_filled.Reads as at-filled-reads
-use Rattle.plan.proofs.stopping.+completed.{statement}
-use Rattle.plan.proofs.stopping.+completed.Tie.{close}
+use Rattle.plan.proofs.FirstStage.{completed-none, completed-first}
+use Rattle.plan.proofs.completion.completed.Reads as completed
+use Rattle.plan.proofs.completion.completed.Kinds as kinds
+use Rattle.plan.proofs.completion.+completed.Lts-completed as lts
+use Rattle.plan.proofs.completion.at_filled.Reads as at-filled-reads
+use Rattle.plan.proofs.completion.+completed.{statement}
+use Rattle.plan.proofs.completion.+completed.Tie.{close}
 
 abbrev μ : Measures 1 kinds.ps ℕ
 μ κs a = length (a .0 .now)
@@ -30,7 +30,7 @@ module _ (t : ℕ) where
   returns : lts.Need-returns (calls t) (given t) completed.Post
   returns c =
       let a = c .before .before .args in
-      sym (no-stage-left (a .plan .now) (a .class) (a .before) (a .c) (c .if1 .taken))
+      sym (completed-none (a .plan .now) (a .class) (a .before) (a .c) (c .if1 .taken))
 
   add-end : lts.Need-add-end (calls t) (given t) completed.Post
   add-end c = omega (arith, total-more (c .before .before .before .args .plan .now) (c .before .if1 .left))
@@ -50,19 +50,19 @@ module _ (t : ℕ) where
   returns-2 c =
       let told = c .before .before in
       let a = told .before .before .before .before .before .before .args in
-      c .completed .ensures ∙ sym (at-first-stage (a .plan .now) (a .class) (a .before) (a .c) (told .before .before .before .before .if1 .left)
+      c .completed .ensures ∙ sym (completed-first (a .plan .now) (a .class) (a .before) (a .c) (told .before .before .before .before .if1 .left)
       GoOn (sym (told .enum-told .given .1) ∙ told .before .before .at-filled .ensures))
 
   returns-3 : lts.Need-returns-3 (calls t) (given t) completed.Post
   returns-3 c =
       let a = c .before .before .before .before .before .before .args in
-      sym (at-first-stage (a .plan .now) (a .class) (a .before) (a .c) (c .before .before .before .before .if1 .left)
+      sym (completed-first (a .plan .now) (a .class) (a .before) (a .c) (c .before .before .before .before .if1 .left)
       Accept (sym (c .enum-told2 .given .1) ∙ c .before .before .at-filled .ensures))
 
   returns-4 : lts.Need-returns-4 (calls t) (given t) completed.Post
   returns-4 c =
       let a = c .before .before .before .before .before .before .args in
-      sym (at-first-stage (a .plan .now) (a .class) (a .before) (a .c) (c .before .before .before .before .if1 .left)
+      sym (completed-first (a .plan .now) (a .class) (a .before) (a .c) (c .before .before .before .before .if1 .left)
       Reject (sym (c .enum-told3 .given .1) ∙ c .before .before .at-filled .ensures))
 
 pub +completed-spec : {M : Type 1} → statement M
