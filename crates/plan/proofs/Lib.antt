@@ -17,3 +17,4 @@ mod Best
 mod CountLaws
 mod Uncurtailed
 pub mod Promise
+pub mod Refusals

@@ -4,3 +4,4 @@ pub mod Counts
 pub mod Stopping
 pub mod Sample
 pub mod Promise
+pub mod Refusal
