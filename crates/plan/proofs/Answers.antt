@@ -1,10 +1,6 @@
 -- An answer by two tests: rejection, then acceptance. Assumes nothing.
-use mathlib.Core.Path.{_≡_, refl, ap}
-use mathlib.Core.Bool.{Bool, true, false, cond, _&&_, _||_}
-use native.Mathlib.Omega.{arith}
-use lib.Dec.{leb}
-use Prim.Native.Nat.{ℕ, _≤_, _<_}
-use borrow.Author.Tests.{le-leb, lt-leb}
+use mathlib.Core.Path.{_≡_, refl}
+use mathlib.Core.Bool.{Bool, true, false, cond}
 use Rattle.plan.specs.declared.stage.Answer.{Answer}
 use Rattle.plan.specs.declared.stage.Answer.the-variants.{GoOn, Accept, Reject}
 

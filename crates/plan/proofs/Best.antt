@@ -3,7 +3,7 @@
 use Prim.Native.Nat.{ℕ, zero, suc, _-_, _≤_, _<_}
 use mathlib.Core.Path.{_≡_, refl, sym, ap, _∙_}
 use mathlib.Core.Logic.{_↔_, _≢_, _⊎_, inl, inr}
-use mathlib.Core.List.{List, [], _++_}
+use mathlib.Core.List.{List, _++_}
 use native.Mathlib.Omega.{arith}
 use native.Mathlib.Decide.{decLt}
 use lib.ListN.{length, take, replicate}
@@ -13,8 +13,9 @@ use Rattle.plan.specs.declared.stage.Answer.the-variants.{GoOn, Accept, 
 use Rattle.plan.specs.Plan.{Stage, total}
 use Rattle.plan.specs.Counts.{counts}
 use Rattle.plan.specs.Stopping.{earliest}
-use Rattle.plan.specs.Sample.{Classes, verdict, Completion, All-have, Rule, Stops, Faithful}
+use Rattle.plan.specs.Sample.{Classes, verdict, All-have, Rule, Stops, Faithful}
 use Rattle.plan.specs.Promise.{earliest-rule, History, Least, Best}
+use Rattle.plan.proofs.FirstPlace.{Never, First, first}
 use Rattle.plan.proofs.Limits.{Limits}
 use Rattle.plan.proofs.Verdicts.{classes-take, filled, history-take, Right, right, settles, no-longer, decided, verdict-decides}
 
@@ -32,34 +33,14 @@ one-stop rule x x′ y y′ v v′ e s s′ = go (decLt y y′) (decLt y′ y)
         cc (s .there, s′ .there)
 
 -- what a decided history shows, all its completions have
-all-have : (p : List Stage) (h : List ℕ) → Right p h → (v : Answer) → v ≢ GoOn → earliest p (counts h) ≡ v → All-have p h v
+pub all-have : (p : List Stage) (h : List ℕ) → Right p h → (v : Answer) → v ≢ GoOn → earliest p (counts h) ≡ v → All-have p h v
 all-have p h r GoOn n e = absurd (n refl)
 all-have p h r Accept n e = r .accepted .0 e
 all-have p h r Reject n e = r .rejected .0 e
 
--- the first place before n where an answer does not go on, if there is one
-abbrev Never : (ℕ → Answer) → ℕ → Type 0
-Never f n = (z : ℕ) → z < n → f z ≡ GoOn
-
-record First (f : ℕ → Answer) (n : ℕ) : Type 0 where
-  at : ℕ
-  before : at < n
-  stops : f at ≢ GoOn
-  never : Never f at
-
-first : (f : ℕ → Answer) (n : ℕ) → Never f n ⊎ First f n
-first f zero = inl (λ z l. absurd (omega arith))
-first f (suc n) = go (first f n) (f n) refl
-  where
-    go : Never f n ⊎ First f n → (a : Answer) → f n ≡ a → Never f (suc n) ⊎ First f (suc n)
-    go (inr t) a e = inr (record { at = t .at; before = omega arith; stops = t .stops; never = t .never })
-    go (inl o) GoOn e = inl (λ z l. elim (decLt z n) [ yes k ↦ o z k | no k ↦ ap f (omega arith) ∙ e ])
-    go (inl o) Accept e = inr (record { at = n; before = omega arith; stops = λ g. let z : _≡_ {A = ℕ} 0 1 = cc in omega arith; never = o })
-    go (inl o) Reject e = inr (record { at = n; before = omega arith; stops = λ g. let z : _≡_ {A = ℕ} 0 1 = cc in omega arith; never = o })
-
 module _ (p : List Stage) (l : Limits p) where
   -- the beginning of a list up to which no unit stops
-  history : (x : List ℕ) (y : ℕ) → Classes x → y ≤ length x → ((z : ℕ) → z < y → earliest-rule p (take z x) ≡ GoOn) → History p (take y x)
+  pub history : (x : List ℕ) (y : ℕ) → Classes x → y ≤ length x → ((z : ℕ) → z < y → earliest-rule p (take z x) ≡ GoOn) → History p (take y x)
   history x y c w o =
       let n : length (take y x) ≡ y = length-take-le y x w in
       record { classes = classes-take y x c; undecided-before = λ z k. rw (take-take z y x (omega arith)) (o z (omega arith)) }

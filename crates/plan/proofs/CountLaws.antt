@@ -1,22 +1,24 @@
--- Laws of the earliest stop as a rule on counts: within a stage, what comes before an undecided history is undecided; and as many
--- nongood or bad units as the last rejection number are rejected.
+-- Laws of the ways as rules on counts: within a stage, what comes before an undecided history is undecided; as many nongood or bad
+-- units as the last rejection number are rejected; after S units no way stops.
 -- Assumes nothing.
-use Prim.Native.Nat.{ℕ, _-_, _≤_, _<_}
-use mathlib.Core.Path.{_≡_, refl, sym, ap, _∙_}
+use Prim.Native.Nat.{ℕ, _+_, _-_, _≤_, _<_}
+use mathlib.Core.Path.{_≡_, _∙_}
 use mathlib.Core.Logic.{_⊎_, inl, inr, ⊎-elim}
-use mathlib.Core.List.{List}
+use mathlib.Core.List.{List, [], _∷_}
 use native.Mathlib.Omega.{arith}
-use lib.ListN.{length, take, drop, take-append-drop}
-use lib.Seq.{length-take-le}
+use lib.ListN.{length, take}
+use lib.Seq.{take-all}
 use Rattle.plan.specs.declared.counts.Counts.{Counts}
 use Rattle.plan.specs.declared.stage.Answer.the-variants.{GoOn, Reject}
+use Rattle.plan.specs.declared.ways.Way.{Way}
+use Rattle.plan.specs.declared.ways.Way.the-variants.{Staged, Earliest}
 use Rattle.plan.specs.Plan.{Stage, total, last-reject1, last-reject2}
-use Rattle.plan.specs.Counts.{units, nongood, add-units, counts-after, counts}
-use Rattle.plan.specs.Stopping.{at-filled, completed, earliest}
+use Rattle.plan.specs.Counts.{units, nongood, add-units, counts}
+use Rattle.plan.specs.Stopping.{at-filled, completed, at-stage, staged, earliest, answer}
 use Rattle.plan.specs.Promise.{Same-stage}
 use Rattle.plan.proofs.Order.{rank, at-end-mono, undecided, undecided-ranks, rejected}
-use Rattle.plan.proofs.Units.{add-good, add-bad, More, added, more, units-counts, counts-append}
-use Rattle.plan.proofs.Ends.{Each, each-end, each-both, first-mono, first-rejects, end-past, end-due, end-case}
+use Rattle.plan.proofs.Units.{add-good, add-bad, More, added, more-taken, units-counts, units-taken}
+use Rattle.plan.proofs.Ends.{Each, each-end, each-both, first-mono, first-same, first-on, first-rejects, current-past, end-past, end-due, end-case}
 use Rattle.plan.proofs.Limits.{Limits}
 
 -- ---- within a stage
@@ -51,9 +53,8 @@ module _ (n : ℕ) (c d : Counts) (m : More n c d) where
 pub within-stage : (p : List Stage) (h : List ℕ) (z : ℕ) → z ≤ length h → Same-stage p z (length h)
     → earliest p (counts h) ≡ GoOn → earliest p (counts (take z h)) ≡ GoOn
 within-stage p h z l same =
-    let split : counts h ≡ counts-after (counts (take z h)) (drop z h) = ap counts (sym (take-append-drop z h)) ∙ counts-append (take z h) (drop z h) in
-    let n : units (counts (take z h)) ≡ z = units-counts (take z h) ∙ length-take-le z h l in
-    undecided-sooner (length (drop z h)) (counts (take z h)) (counts h) (rw split (more (counts (take z h)) (drop z h))) p
+    let n = units-taken h z l in
+    undecided-sooner (length h - z) (counts (take z h)) (counts h) (rw (take-all (length h) h (omega arith)) at (more-taken h z (length h) l (omega arith))) p
     (each-end (λ end. units (counts (take z h)) ≤ end → units (counts h) ≤ end) 0 p (λ e m k. omega (arith, same e m (omega arith), units-counts h)))
 
 -- ---- as many units as the last rejection number
@@ -73,3 +74,19 @@ module _ (p : List Stage) (l : Limits p) (c : Counts) (n : units c ≤ total p) 
   pub rejects : earliest p c ≡ Reject
   unfolding earliest
   rejects = rw (completed-rejects 2, completed-rejects 0)
+
+-- ---- after S units
+
+ends-past : (u before : ℕ) (p : List Stage) → before + total p < u → Each (λ end s. end < u) before p
+unfolding total
+ends-past u before [] l = tt
+ends-past u before (s ∷ rest) l = (omega arith, ends-past u (before + s .size) rest (omega arith))
+
+completed-past : (class : ℕ) (p : List Stage) (c : Counts) → total p < units c → completed class 0 p c ≡ GoOn
+completed-past class p c l =
+    first-same (λ end s. end < units c) (at-filled class c) (λ end s. GoOn) (end-past class c) 0 p (ends-past (units c) 0 p (omega arith)) ∙ first-on 0 p
+
+pub past : (p : List Stage) (way : Way) (c : Counts) → total p < units c → answer way p c ≡ GoOn
+unfolding staged earliest
+past p (Staged way) c l = current-past (at-stage way) 0 p c (omega arith)
+past p Earliest c l = rw (completed-past 2 p c l, completed-past 0 p c l)

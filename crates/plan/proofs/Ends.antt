@@ -1,25 +1,30 @@
 -- The first answer of a plan's stages, from what holds at each stage's end.
 -- Assumes nothing.
 use Prim.Native.Nat.{ℕ, _+_, _-_, _≤_, _<_}
-use mathlib.Core.Path.{_≡_, refl, ap₂}
-use mathlib.Core.Logic.{_⊎_, inl, inr}
+use mathlib.Core.Path.{_≡_, refl, ap₂, _∙_}
+use mathlib.Core.Logic.{_≢_, _⊎_, inl, inr}
 use mathlib.Core.List.{List, [], _∷_}
 use native.Mathlib.Omega.{arith}
 use native.Mathlib.Decide.{decLt}
 use lib.ListN.{length}
-use borrow.Author.Tests.{lt-ltb, le-ltb}
+use borrow.Author.Tests.{lt-ltb, le-ltb, le-leb, lt-leb}
 use Rattle.plan.specs.declared.counts.Counts.{Counts}
 use Rattle.plan.specs.declared.stage.Answer.{Answer}
 use Rattle.plan.specs.declared.stage.Answer.the-variants.{GoOn, Accept, Reject}
 use Rattle.plan.specs.Plan.{Stage, total, End}
 use Rattle.plan.specs.Counts.{units, add-units}
-use Rattle.plan.specs.Stopping.{or-else, at-end, first-answer, at-filled}
+use Rattle.plan.specs.Stopping.{or-else, at-end, first-answer, at-filled, current}
 use Rattle.plan.proofs.Order.{rank, or-else-mono}
 
 -- P holds at the end of each stage
 abbrev pub Each : (ℕ → Stage → Type 0) → ℕ → List Stage → Type 0
 Each P before [] = Unit {0}
 Each P before (s ∷ rest) = P (before + s .size) s × Each P (before + s .size) rest
+
+module _ (P Q : ℕ → Stage → Type 0) (f : (end : ℕ) (s : Stage) → P end s → Q end s) where
+  pub each-map : (before : ℕ) (p : List Stage) → Each P before p → Each Q before p
+  each-map before [] a = tt
+  each-map before (s ∷ rest) a = (f _ s (a .0), each-map (before + s .size) rest (a .1))
 
 pub each-end : (Q : ℕ → Type 0) (before : ℕ) (p : List Stage) → ((e : ℕ) → End before p e → Q e) → Each (λ end s. Q end) before p
 unfolding End
@@ -43,6 +48,12 @@ module _ (P : ℕ → Stage → Type 0) (f g : ℕ → Stage → Answer) where
   first-same m before [] e = refl
   first-same m before (s ∷ rest) e = ap₂ or-else (m _ s (e .0)) (first-same m (before + s .size) rest (e .1))
 
+-- an answer that does not go on comes first
+pub or-else-first : (v later : Answer) → v ≢ GoOn → or-else v later ≡ v
+or-else-first GoOn later n = absurd (n refl)
+or-else-first Accept later n = refl
+or-else-first Reject later n = refl
+
 -- where no stage answers, none does
 pub first-on : (before : ℕ) (p : List Stage) → first-answer (λ end s. GoOn) before p ≡ GoOn
 first-on before [] = refl
@@ -63,6 +74,21 @@ first-rejects u f before (s ∷ rest) e l n = go (decLt (before + s .size) u) (�
         → or-else (f (before + s .size) s) (first-answer f (before + s .size) rest) ≡ Reject
     go (yes k) later = rw (e .0 .0 k) (later k)
     go (no k) later = rw (e .0 .1 (omega arith))
+
+-- ---- a way at the current stage
+
+module _ (way : ℕ → Stage → Counts → Answer) where
+  module _ (before : ℕ) (s : Stage) (rest : List Stage) (c : Counts) where
+    pub current-here : units c ≤ before + s .size → current way before (s ∷ rest) c ≡ way (before + s .size) s c
+    current-here l = rw (le-leb (units c) (before + s .size) l)
+
+    pub current-later : before + s .size < units c → current way before (s ∷ rest) c ≡ current way (before + s .size) rest c
+    current-later l = rw (lt-leb (units c) (before + s .size) l)
+
+  pub current-past : (before : ℕ) (p : List Stage) (c : Counts) → before + total p < units c → current way before p c ≡ GoOn
+  unfolding total
+  current-past before [] c l = refl
+  current-past before (s ∷ rest) c l = current-later before s rest c (omega arith) ∙ current-past (before + s .size) rest c (omega arith)
 
 -- ---- an end where further units have one class: it is past, or due
 

@@ -3,7 +3,6 @@ use Prim.Native.Nat.{ℕ, _+_, _≤_, _<_}
 use mathlib.Core.Path.{_≡_}
 use mathlib.Core.List.{List}
 use lib.ListN.{length}
-use borrow.Author.Tests.{le-leb, lt-leb}
 use Rattle.plan.specs.declared.counts.Counts.{Counts}
 use Rattle.plan.specs.declared.stage.Answer.{Answer}
 use Rattle.plan.specs.declared.stage.Answer.the-variants.{GoOn}
@@ -11,6 +10,7 @@ use Rattle.plan.specs.declared.ways.StageWay.{StageWay}
 use Rattle.plan.specs.Plan.{stages, first}
 use Rattle.plan.specs.Counts.{units}
 use Rattle.plan.specs.Stopping.{completed, at-filled, or-else, at-stage, current}
+use Rattle.plan.proofs.Ends.{current-here, current-later}
 use Rattle.plan.proofs.Stages.{after, stages-more, stages-none}
 
 module _ (w : List ℕ) (class before : ℕ) (c : Counts) where
@@ -28,8 +28,8 @@ module _ (w : List ℕ) (way : StageWay) (before : ℕ) (c : Counts) where
 
   pub current-first : 5 ≤ length w → units c ≤ before + first w .size →
       current (at-stage way) before (stages w) c ≡ at-stage way (before + first w .size) (first w) c
-  current-first h l = rw (stages-more w h, le-leb (units c) (before + first w .size) l)
+  current-first h l = rw (stages-more w h) (current-here (at-stage way) before (first w) (stages (after w)) c l)
 
-  pub current-later : 5 ≤ length w → before + first w .size < units c →
+  pub current-rest : 5 ≤ length w → before + first w .size < units c →
       current (at-stage way) before (stages w) c ≡ current (at-stage way) (before + first w .size) (stages (after w)) c
-  current-later h l = rw (stages-more w h, lt-leb (units c) (before + first w .size) l)
+  current-rest h l = rw (stages-more w h) (current-later (at-stage way) before (first w) (stages (after w)) c l)

@@ -13,8 +13,12 @@ mod Limits
 mod Shape
 mod Prefix
 mod Verdicts
+mod FirstPlace
 mod Best
 mod CountLaws
 mod Uncurtailed
+mod StageWays
+mod Compared
+mod OneStage
 pub mod Promise
 pub mod Refusals

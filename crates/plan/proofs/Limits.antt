@@ -1,25 +1,22 @@
 -- What the rules of an admitted plan say of each stage and of the last one.
 -- Assumes nothing.
-use Prim.Native.Nat.{ℕ, _+_, _-_, _*_, _≤_, _<_}
-use mathlib.Core.Path.{_≡_, refl, sym, ap, _∙_}
+use Prim.Native.Nat.{ℕ, _+_, _*_, _≤_, _<_}
+use mathlib.Core.Path.{_≡_, refl}
 use mathlib.Core.Logic.{_≢_}
 use mathlib.Core.Bool.{Bool, true, false, cond, _&&_, _||_}
 use mathlib.Core.List.{List, [], _∷_}
 use native.Mathlib.Omega.{arith}
-use lib.ListN.{length, getD}
-use native.Mathlib.Decide.{decLt}
-use lib.Seq.{getD-append-add}
+use lib.ListN.{length}
 use lib.Dec.{leb, ltb, eqb}
 use borrow.Author.Tests.{leb-true, leb-false, ltb-true, le-leb, eqb-true}
 use Rattle.plan.specs.declared.counts.Counts.{Counts}
 use Rattle.plan.specs.declared.stage.Answer.{Answer}
 use Rattle.plan.specs.declared.stage.Answer.the-variants.{GoOn, Accept, Reject}
-use Rattle.plan.specs.Plan.{Stage, stages, first, total, each, never-falls, apart, below-ends, last, last-reject1, last-reject2, rules, admitted}
+use Rattle.plan.specs.Plan.{Stage, stages, total, each, never-falls, apart, below-ends, last, last-reject1, last-reject2, rules, admitted}
 use Rattle.plan.specs.Counts.{nongood}
-use Rattle.plan.specs.Promise.{Shape}
 use Rattle.plan.specs.Stopping.{or-else, at-end, first-answer}
 use Rattle.plan.proofs.Bools.{and-left, and-right}
-use Rattle.plan.proofs.Ends.{Each}
+use Rattle.plan.proofs.Ends.{Each, each-both}
 
 -- ---- the rules as facts at each stage
 
@@ -32,13 +29,12 @@ below a before [] e = tt
 below a before (s ∷ rest) e =
     (ltb-true _ _ (and-left (ltb (a s) (before + s .size)) _ e), below a (before + s .size) rest (and-right (ltb (a s) (before + s .size)) _ e))
 
-module _ (a r : Stage → ℕ) where
-  positive : (before : ℕ) (p : List Stage) → apart a r p ≡ true → Each (λ end s. 1 ≤ r s) before p
-  positive before [] e = tt
-  positive before (s ∷ []) e = (omega (arith, eqb-true (a s + 1) (r s) e), tt)
-  positive before (s ∷ t ∷ rest) e =
-      let l : a s + 1 < r s = ltb-true _ _ (and-left (ltb (a s + 1) (r s)) _ e) in
-      (omega arith, positive (before + s .size) (t ∷ rest) (and-right (ltb (a s + 1) (r s)) _ e))
+gap : (a r : Stage → ℕ) (before : ℕ) (p : List Stage) → apart a r p ≡ true → Each (λ end s. a s < r s) before p
+gap a r before [] e = tt
+gap a r before (s ∷ []) e = (omega (arith, eqb-true (a s + 1) (r s) e), tt)
+gap a r before (s ∷ t ∷ rest) e =
+    let l : a s + 1 < r s = ltb-true _ _ (and-left (ltb (a s + 1) (r s)) _ e) in
+    (omega arith, gap a r (before + s .size) (t ∷ rest) (and-right (ltb (a s + 1) (r s)) _ e))
 
 module _ (row : Stage → ℕ) where
   at-most-last : (before : ℕ) (p : List Stage) → never-falls row p ≡ true → Each (λ end s. row s ≤ last row p) before p
@@ -76,19 +72,24 @@ pub record Tests (w : List ℕ) : Type 0 where
   pub apart1 : apart a1 r1 (stages w) ≡ true
   pub apart2 : apart a2 r2 (stages w) ≡ true
   pub below2 : below-ends a2 0 (stages w) ≡ true
+  pub within1 : leb (last r1 (stages w)) (0 + total (stages w)) ≡ true
   pub crossed : each (λ s. leb (s .reject2) (s .reject1)) (stages w) ≡ true
 
 pub tests : (w : List ℕ) → admitted w ≡ true → Tests w
 unfolding admitted rules
 tests w e = search (and-left, and-right) depth 16
 
--- what they say of the stages p
+-- what they say of one stage
+pub record Sound (s : Stage) : Type 0 where
+  pub size : 1 ≤ s .size
+  pub row1 : s .accept1 < s .reject1
+  pub row2 : s .accept2 < s .reject2
+
+-- and of the stages p
 pub record Limits (p : List Stage) : Type 0 where
   pub some-stage : 1 ≤ length p
-  pub sizes : Each (λ end s. leb 1 (s .size) ≡ true) 0 p
+  pub sound : Each (λ end s. Sound s) 0 p
   pub below2 : Each (λ end s. s .accept2 < end) 0 p
-  pub positive1 : Each (λ end s. 1 ≤ s .reject1) 0 p
-  pub positive2 : Each (λ end s. 1 ≤ s .reject2) 0 p
   pub at-most1 : Each (λ end s. s .reject1 ≤ last-reject1 p) 0 p
   pub at-most2 : Each (λ end s. s .reject2 ≤ last-reject2 p) 0 p
   pub apart1 : apart (λ s. s .accept1) (λ s. s .reject1) p ≡ true
@@ -100,10 +101,10 @@ limits w e =
     let t = tests w e in
     record {
       some-stage = leb-true 1 (length (stages w)) (t .some-stage);
-      sizes = all-stages _ 0 (stages w) (t .sizes);
+      sound = each-both (λ end s. leb 1 (s .size) ≡ true) (λ end s. (s .accept1 < s .reject1) × (s .accept2 < s .reject2)) (λ end s. Sound s)
+          (λ end s a b. record { size = leb-true 1 (s .size) a; row1 = b .0; row2 = b .1 }) 0 (stages w) (all-stages _ 0 (stages w) (t .sizes))
+          (each-both _ _ _ (λ end s a b. (a, b)) 0 (stages w) (gap a1 r1 0 (stages w) (t .apart1)) (gap a2 r2 0 (stages w) (t .apart2)));
       below2 = below a2 0 (stages w) (t .below2);
-      positive1 = positive a1 r1 0 (stages w) (t .apart1);
-      positive2 = positive a2 r2 0 (stages w) (t .apart2);
       at-most1 = at-most-last r1 0 (stages w) (t .rises1);
       at-most2 = at-most-last r2 0 (stages w) (t .rises2);
       apart1 = t .apart1;

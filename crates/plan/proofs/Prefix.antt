@@ -6,17 +6,17 @@ use mathlib.Core.Bool.{cond}
 use mathlib.Core.List.{List, [], _∷_, _++_}
 use native.Mathlib.Omega.{arith}
 use native.Mathlib.Nat.{le-of-suc-le-suc, not-suc-le-zero}
-use lib.ListN.{length, take, drop, replicate, take-append-drop, length-take, length-drop}
-use lib.Seq.{length-take-le, take-take, take-append-add, take-append-seam}
+use lib.ListN.{length, take, replicate}
+use lib.Seq.{take-take, take-append-add, take-append-seam}
 use lib.Dec.{ltb}
 use borrow.Author.Tests.{le-ltb}
 use Rattle.plan.specs.declared.counts.Counts.{Counts}
 use Rattle.plan.specs.declared.stage.Answer.the-variants.{GoOn}
 use Rattle.plan.specs.Plan.{Stage, total}
-use Rattle.plan.specs.Counts.{units, add-units, counts-after, counts}
+use Rattle.plan.specs.Counts.{units, add-units, counts}
 use Rattle.plan.specs.Stopping.{at-end, at-filled, completed, settled}
 use Rattle.plan.proofs.Order.{rank, at-end-mono, Better, settled-past}
-use Rattle.plan.proofs.Units.{More, more, units-counts, counts-append, after-replicate}
+use Rattle.plan.proofs.Units.{More, more-taken, units-counts, units-taken, counts-append, after-replicate}
 use Rattle.plan.proofs.Ends.{Each, end-case}
 
 -- ---- more units are no worse than bad ones and no better than good ones
@@ -57,7 +57,7 @@ unfolding total
 ended bound h before [] w o = tt
 ended bound h before (s ∷ rest) w o =
     let end : ℕ = before + s .size in
-    let n : (y : ℕ) → y < length h → units (counts (take y h)) ≡ y = λ y k. units-counts (take y h) ∙ length-take-le y h (omega arith) in
+    let n : (y : ℕ) → y < length h → units (counts (take y h)) ≡ y = λ y k. units-taken h y (omega arith) in
     let now : (y : ℕ) → end ≤ y → y < length h → (cond (ltb end (units (counts (take y h)))) GoOn (at-end s (counts (take y h))) ≡ GoOn) × Undecided end rest (counts (take y h))
     = λ y l k. past before s rest (counts (take y h)) (omega (arith, n y k)) (o y (omega arith) k) in (
       record { within = omega arith; went-on = λ k. rw (le-ltb end (units (counts (take end h))) (omega (arith, n end k))) at (now end (omega arith) k .0) },
@@ -72,18 +72,11 @@ module _ (bound : ℕ) (h x : List ℕ) (begins : take (length h) x ≡ h) (end 
       let k : end < length h = omega (arith, units-counts h) in
       ap (λ (r : List ℕ). at-end s (counts r)) (sym (take-take end (length h) x (omega arith)) ∙ ap (take end) begins) ∙ e .went-on k
 
-  split : length h ≤ end → counts (take end x) ≡ counts-after (counts h) (drop (length h) (take end x))
-  split l =
-      ap counts (sym (take-append-drop (length h) (take end x)))
-      ∙ ap (λ (r : List ℕ). counts (r ++ drop (length h) (take end x))) (take-take (length h) end x l ∙ begins)
-      ∙ counts-append h (drop (length h) (take end x))
-
   -- no more units of x than up to the end are beyond h
   beyond : end ≤ length x → units (counts h) ≤ end → More (end - units (counts h)) (counts h) (counts (take end x))
   beyond w l =
       let u = units-counts h in
-      let n : length (drop (length h) (take end x)) ≡ end - units (counts h) = omega (arith, length-drop (length h) (take end x), length-take-le end x w) in
-      rw (split (omega arith), ← n) (more (counts h) (drop (length h) (take end x)))
+      rw u (rw begins at (more-taken x (length h) end (omega arith) w))
 
   pub worst : end ≤ length x → rank (at-filled 2 (counts h) end s) ≤ rank (at-end s (counts (take end x)))
   worst w =

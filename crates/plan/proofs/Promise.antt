@@ -5,11 +5,12 @@ use mathlib.Core.Bool.{Bool, true, false, _&&_}
 use mathlib.Core.List.{List, [], _∷_}
 use Prim.Native.Nat.{ℕ, _-_}
 use native.Mathlib.Omega.{arith}
+use lib.ListN.{length}
 use lib.Dec.{leb}
 use borrow.Author.Tests.{leb-true, leb-false, le-leb, lt-leb}
 use Rattle.plan.specs.Plan.{stages, admitted}
 use Rattle.plan.specs.Counts.{nonbad, counts}
-use Rattle.plan.specs.Promise.{Shape, Promise, Full-as-written, Counting}
+use Rattle.plan.specs.Promise.{Shape, One-stage, Promise, Full-as-written, Counting}
 use Rattle.plan.proofs.Units.{add-good, add-bad, add-marginal, added, units-counts, counts-append}
 use Rattle.plan.proofs.Limits.{limits}
 use Rattle.plan.proofs.Shape.{shape as shape-of}
@@ -17,9 +18,15 @@ use Rattle.plan.proofs.Verdicts as verdicts
 use Rattle.plan.proofs.Best as best
 use Rattle.plan.proofs.CountLaws as laws
 use Rattle.plan.proofs.Uncurtailed.{uncurtailed-stop}
+use Rattle.plan.proofs.StageWays.{sound}
+use Rattle.plan.proofs.Compared.{staged-later, same-rejection}
+use Rattle.plan.proofs.OneStage.{one-stage as one-stage-of, one-stage-words}
 
 pub shape : (w : List ℕ) → admitted w ≡ true → Shape w
 shape = shape-of
+
+pub one-stage : (w : List ℕ) → admitted w ≡ true → length w ≡ 5 → One-stage w
+one-stage = one-stage-words
 
 pub promise : (w : List ℕ) → admitted w ≡ true → Promise (stages w)
 promise w e =
@@ -34,6 +41,11 @@ promise w e =
       faithful = best.faithful (stages w) l;
       earliest-stop = best.earliest-stop (stages w) l;
       uncurtailed-stop = uncurtailed-stop (stages w) l;
+      staged-sound = sound (stages w) l;
+      staged-later = λ way x c. staged-later (stages w) l x c way;
+      same-rejection = same-rejection (stages w) l;
+      one-stage = one-stage-of (stages w) l;
+      past = laws.past (stages w);
       within-stage = laws.within-stage (stages w);
       rejects = laws.rejects (stages w) l;
     }

@@ -12,8 +12,8 @@ use lib.Dec.{leb}
 use borrow.Author.Tests.{leb-true, eqb-true}
 use Rattle.plan.specs.Plan.{Stage, stages, first, total, last, last-reject1, last-reject2, admitted}
 use Rattle.plan.specs.Promise.{Shape}
-use Rattle.plan.proofs.Ends.{Each}
-use Rattle.plan.proofs.Limits.{all-stages, tests, limits}
+use Rattle.plan.proofs.Ends.{Each, each-map}
+use Rattle.plan.proofs.Limits.{all-stages, tests, Sound, limits}
 
 abbrev r1 : Stage → ℕ
 r1 s = s .reject1
@@ -32,10 +32,10 @@ lasts row row′ before [] e = omega arith
 lasts row row′ before (s ∷ []) e = leb-true _ _ (e .0)
 lasts row row′ before (s ∷ t ∷ rest) e = lasts row row′ (before + s .size) (t ∷ rest) (e .1)
 
-some-units : (before : ℕ) (p : List Stage) → 1 ≤ length p → Each (λ end s. leb 1 (s .size) ≡ true) before p → 1 ≤ total p
+some-units : (before : ℕ) (p : List Stage) → 1 ≤ length p → Each (λ end s. Sound s) before p → 1 ≤ total p
 unfolding total
 some-units before [] n e = absurd (omega arith)
-some-units before (s ∷ rest) n e = omega (arith, leb-true 1 (s .size) (e .0))
+some-units before (s ∷ rest) n e = omega (arith, e .0 .size)
 
 last-later : (row : Stage → ℕ) (s : Stage) (p : List Stage) → 1 ≤ length p → last row (s ∷ p) ≡ last row p
 last-later row s [] n = absurd (omega arith)
@@ -78,11 +78,11 @@ shape w e =
       whole = whole;
       some-stage = l .some-stage;
       seven-stages = leb-true (length p) 7 (t .seven-stages);
-      some-unit = some-units 0 p (l .some-stage) (l .sizes);
+      some-unit = some-units 0 p (l .some-stage) (l .sound);
       thousand-units = omega (arith, leb-true (0 + total p) 1000 (t .thousand));
-      reject1-from = last-of r1 (λ n. 1 ≤ n) 0 p (l .some-stage) (l .positive1);
+      reject1-from = last-of r1 (λ n. 1 ≤ n) 0 p (l .some-stage) (each-map _ _ (λ end s a. omega (arith, a .row1)) 0 p (l .sound));
       reject1-to = leb-true (last r1 p) 60 (t .sixty);
-      reject2-from = last-of r2 (λ n. 1 ≤ n) 0 p (l .some-stage) (l .positive2);
+      reject2-from = last-of r2 (λ n. 1 ≤ n) 0 p (l .some-stage) (each-map _ _ (λ end s a. omega (arith, a .row2)) 0 p (l .sound));
       reject2-to = lasts r2 r1 0 p (all-stages _ 0 p (t .crossed));
       reject1-at = last-at r1 2 (omega arith) (λ v. refl) w whole (l .some-stage) ∙ ap (λ (i : ℕ). getD w i 0) (omega arith);
       reject2-at = last-at r2 4 (omega arith) (λ v. refl) w whole (l .some-stage) ∙ ap (λ (i : ℕ). getD w i 0) (omega arith);

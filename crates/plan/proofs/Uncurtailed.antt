@@ -1,43 +1,36 @@
 -- The uncurtailed way stops on every complete sample, with the uncurtailed verdict.
 -- Assumes nothing.
 use Prim.Native.Nat.{ℕ, _+_, _≤_, _<_}
-use mathlib.Core.Path.{_≡_, refl, sym, _∙_}
+use mathlib.Core.Path.{_≡_, refl, _∙_}
 use mathlib.Core.Logic.{_≢_}
-use mathlib.Core.Bool.{true}
 use mathlib.Core.List.{List, [], _∷_}
 use native.Mathlib.Omega.{arith}
 use native.Mathlib.Decide.{decLt}
 use lib.ListN.{length, take}
 use lib.Seq.{length-take-le}
-use lib.Dec.{leb}
-use borrow.Author.Tests.{leb-true, le-leb, lt-leb, eq-eqb, ne-eqb}
+use borrow.Author.Tests.{eq-eqb, ne-eqb}
 use Rattle.plan.specs.declared.counts.Counts.{Counts}
 use Rattle.plan.specs.declared.stage.Answer.{Answer}
 use Rattle.plan.specs.declared.stage.Answer.the-variants.{GoOn, Accept, Reject}
+use Rattle.plan.specs.declared.ways.StageWay.the-variants.{Uncurtailed}
 use Rattle.plan.specs.Plan.{Stage, total}
 use Rattle.plan.specs.Counts.{units, counts}
 use Rattle.plan.specs.Stopping.{or-else, at-end, first-answer, current, uncurtailed-at, staged}
 use Rattle.plan.specs.Sample.{verdict, Faithful}
-use Rattle.plan.specs.Promise.{uncurtailed-rule}
+use Rattle.plan.specs.Promise.{staged-rule}
 use Rattle.plan.proofs.Units.{units-counts}
-use Rattle.plan.proofs.Ends.{Each}
-use Rattle.plan.proofs.Limits.{Limits}
+use Rattle.plan.proofs.Ends.{Each, current-here, current-later}
+use Rattle.plan.proofs.Limits.{Sound, Limits}
 use Rattle.plan.proofs.Verdicts.{verdict-decides}
 
 -- ---- at the first of the stages left, which come after `before` units
 
 module _ (before : ℕ) (s : Stage) (rest : List Stage) (c : Counts) where
-  abbrev Current : Answer → Type 0
-  Current a = current uncurtailed-at before (s ∷ rest) c ≡ a
+  within-first : units c < before + s .size → current uncurtailed-at before (s ∷ rest) c ≡ GoOn
+  within-first l = current-here uncurtailed-at before s rest c (omega arith) ∙ rw (ne-eqb (units c) (before + s .size) (λ e. omega arith))
 
-  within-first : units c < before + s .size → Current GoOn
-  within-first l = rw (le-leb (units c) (before + s .size) (omega arith), ne-eqb (units c) (before + s .size) (λ e. omega arith))
-
-  at-first : units c ≡ before + s .size → Current (at-end s c)
-  at-first e = rw (le-leb (units c) (before + s .size) (omega arith), eq-eqb (units c) (before + s .size) e)
-
-  after-first : before + s .size < units c → Current (current uncurtailed-at (before + s .size) rest c)
-  after-first l = rw (lt-leb (units c) (before + s .size) l)
+  at-first : units c ≡ before + s .size → current uncurtailed-at before (s ∷ rest) c ≡ at-end s c
+  at-first e = current-here uncurtailed-at before s rest c (omega arith) ∙ rw (eq-eqb (units c) (before + s .size) e)
 
 -- ---- along the sample x
 
@@ -76,33 +69,33 @@ module _ (x : List ℕ) where
       at = t .at;
       later = omega (arith, t .later);
       within = t .within;
-      there = after-first before s rest (counts (take (t .at) x)) (omega (arith, t .later, counted (t .at) (t .within))) ∙ t .there;
+      there = current-later uncurtailed-at before s rest (counts (take (t .at) x)) (omega (arith, t .later, counted (t .at) (t .within))) ∙ t .there;
       first = λ z l. go z l (decLt z (before + s .size)) (decLt (before + s .size) z);
     }
       where
         go : (z : ℕ) → z < t .at → Dec (z < before + s .size) → Dec (before + s .size < z) → after before (s ∷ rest) z ≡ GoOn
         go z l (yes k) d = within-first before s rest (counts (take z x)) (omega (arith, counted z (omega arith)))
         go z l (no k) (yes m) =
-            after-first before s rest (counts (take z x)) (omega (arith, counted z (omega (arith, t .within)))) ∙ t .first z l
+            current-later uncurtailed-at before s rest (counts (take z x)) (omega (arith, counted z (omega (arith, t .within)))) ∙ t .first z l
         go z l (no k) (no m) =
             let end : z ≡ before + s .size = omega arith in
             rw end (at-first before s rest (counts (take (before + s .size) x)) (counted (before + s .size) w) ∙ e)
 
-  stop : (before : ℕ) (p : List Stage) → Each (λ end s. leb 1 (s .size) ≡ true) before p → before + total p ≤ length x
+  stop : (before : ℕ) (p : List Stage) → Each (λ end s. Sound s) before p → before + total p ≤ length x
       → answer before p ≢ GoOn → Stop before p (answer before p)
   unfolding total
-  stop before [] sizes w d = absurd (d refl)
-  stop before (s ∷ rest) sizes w d = go (at-end s (counts (take (before + s .size) x))) refl d (stop (before + s .size) rest (sizes .1) (omega arith))
+  stop before [] sound w d = absurd (d refl)
+  stop before (s ∷ rest) sound w d = go (at-end s (counts (take (before + s .size) x))) refl d (stop (before + s .size) rest (sound .1) (omega arith))
     where
       go : (a : Answer) → at-end s (counts (take (before + s .size) x)) ≡ a → or-else a (answer (before + s .size) rest) ≢ GoOn
           → (answer (before + s .size) rest ≢ GoOn → Stop (before + s .size) rest (answer (before + s .size) rest))
           → Stop before (s ∷ rest) (or-else a (answer (before + s .size) rest))
-      go GoOn e n later = ends-later before s rest (leb-true _ _ (sizes .0)) (omega arith) _ e (later n)
-      go Accept e n later = ends-here before s rest (leb-true _ _ (sizes .0)) (omega arith) Accept e
-      go Reject e n later = ends-here before s rest (leb-true _ _ (sizes .0)) (omega arith) Reject e
+      go GoOn e n later = ends-later before s rest (sound .0 .size) (omega arith) _ e (later n)
+      go Accept e n later = ends-here before s rest (sound .0 .size) (omega arith) Accept e
+      go Reject e n later = ends-here before s rest (sound .0 .size) (omega arith) Reject e
 
-pub uncurtailed-stop : (p : List Stage) → Limits p → Faithful p (uncurtailed-rule p)
+pub uncurtailed-stop : (p : List Stage) → Limits p → Faithful p (staged-rule Uncurtailed p)
 unfolding staged verdict
 uncurtailed-stop p l x q =
-    let t = stop x 0 p (l .sizes) (omega (arith, q .complete)) (verdict-decides p l x) in
+    let t = stop x 0 p (l .sound) (omega (arith, q .complete)) (verdict-decides p l x) in
     (t .at, record { within = t .within; there = t .there; decides = verdict-decides p l x; first = t .first })

@@ -1,12 +1,13 @@
 -- Counts: what more units add, and the counts of a list.
 -- Assumes nothing.
-use Prim.Native.Nat.{ℕ, zero, suc, _+_, _≤_}
+use Prim.Native.Nat.{ℕ, zero, suc, _+_, _-_, _≤_}
 use mathlib.Core.Path.{_≡_, refl, sym, ap, _∙_}
 use mathlib.Core.Logic.{_≢_}
 use mathlib.Core.List.{List, [], _∷_, _++_}
 use native.Mathlib.Nat.{add-zero}
 use native.Mathlib.Omega.{arith}
-use lib.ListN.{length, replicate}
+use lib.ListN.{length, take, drop, replicate, take-append-drop, length-drop}
+use lib.Seq.{length-take-le, take-take}
 use Rattle.plan.specs.declared.counts.Counts.{Counts}
 use Rattle.plan.specs.Counts.{nongood, units, no-units, add-units, counts-after, counts}
 
@@ -59,6 +60,18 @@ after-append c (x ∷ h) r = after-append (add-units x 1 c) h r
 pub counts-append : (h r : List ℕ) → counts (h ++ r) ≡ counts-after (counts h) r
 unfolding counts
 counts-append h r = after-append no-units h r
+
+-- from the first y units of a list to the first z
+pub more-taken : (x : List ℕ) (y z : ℕ) → y ≤ z → z ≤ length x → More (z - y) (counts (take y x)) (counts (take z x))
+more-taken x y z l w =
+    let n : length (drop y (take z x)) ≡ z - y = omega (arith, length-drop y (take z x), length-take-le z x w) in
+    let split : counts (take z x) ≡ counts-after (counts (take y x)) (drop y (take z x))
+    = ap counts (sym (take-append-drop y (take z x))) ∙ ap (λ (r : List ℕ). counts (r ++ drop y (take z x))) (take-take y z x l)
+    ∙ counts-append (take y x) (drop y (take z x)) in
+    rw (split, ← n) (more (counts (take y x)) (drop y (take z x)))
+
+pub units-taken : (x : List ℕ) (y : ℕ) → y ≤ length x → units (counts (take y x)) ≡ y
+units-taken x y l = units-counts (take y x) ∙ length-take-le y x l
 
 -- n units of one class, one by one
 add-none : (x : ℕ) (c : Counts) → c ≡ add-units x 0 c

@@ -13,12 +13,12 @@ use Rattle.plan.specs.declared.stage.Answer.{Answer}
 use Rattle.plan.specs.declared.stage.Answer.the-variants.{GoOn, Accept, Reject}
 use Rattle.plan.specs.Plan.{Stage, total}
 use Rattle.plan.specs.Counts.{units, no-units, add-units, counts}
-use Rattle.plan.specs.Stopping.{at-filled, completed, settled, earliest}
+use Rattle.plan.specs.Stopping.{at-filled, completed, earliest}
 use Rattle.plan.specs.Sample.{Classes, verdict, Completion, All-have}
 use Rattle.plan.specs.Promise.{History}
 use Rattle.plan.proofs.Order.{rank, top, bottom, accepts-worst, rejects-best, undecided, not-accepted, not-rejected}
-use Rattle.plan.proofs.Ends.{Each, each-both, first-mono, first-same, first-on, end-case}
-use Rattle.plan.proofs.Limits.{Limits, decides}
+use Rattle.plan.proofs.Ends.{Each, first-mono, first-same, first-on, end-case}
+use Rattle.plan.proofs.Limits.{Sound, Limits, decides}
 use Rattle.plan.proofs.Prefix.{Ended, ended, worst, best, reached}
 
 -- ---- the completion by units of one class
@@ -131,18 +131,13 @@ module _ (p : List Stage) (l : Limits p) where
   unfolding add-units
   worst-empty end s m = end-case 2 no-units end s (λ a. rank a ≤ 1) (λ n. omega arith) (λ n. not-accepted s (add-units 2 (end - units no-units) no-units) (omega arith))
 
-  best-empty : (end : ℕ) (s : Stage) → (1 ≤ s .reject1) × (1 ≤ s .reject2) → rank GoOn ≤ rank (at-filled 0 no-units end s)
+  best-empty : (end : ℕ) (s : Stage) → Sound s → rank GoOn ≤ rank (at-filled 0 no-units end s)
   unfolding add-units
-  best-empty end s m = end-case 0 no-units end s (λ a. 1 ≤ rank a) (λ n. omega arith) (λ n. not-rejected s (add-units 0 (end - units no-units) no-units) (omega arith) (omega arith))
+  best-empty end s m = end-case 0 no-units end s (λ a. 1 ≤ rank a) (λ n. omega arith) (λ n. not-rejected s (add-units 0 (end - units no-units) no-units) (omega (arith, m .row2)) (omega (arith, m .row1)))
 
   pub empty : earliest p no-units ≡ GoOn
   unfolding earliest
   empty =
       undecided (completed 2 0 p no-units) (completed 0 0 p no-units)
       (omega (arith, first-mono (λ end s. s .accept2 < end) (at-filled 2 no-units) (λ end s. GoOn) worst-empty 0 p (l .below2), ap rank (first-on 0 p)))
-      (omega (
-        arith,
-        first-mono (λ end s. (1 ≤ s .reject1) × (1 ≤ s .reject2)) (λ end s. GoOn) (at-filled 0 no-units) best-empty 0 p
-            (each-both _ _ _ (λ end s a b. (a, b)) 0 p (l .positive1) (l .positive2)),
-        ap rank (first-on 0 p),
-      ))
+      (omega (arith, first-mono (λ end s. Sound s) (λ end s. GoOn) (at-filled 0 no-units) best-empty 0 p (l .sound), ap rank (first-on 0 p)))

@@ -10,18 +10,20 @@ use lib.Dec.{leb}
 use Rattle.plan.specs.declared.counts.Counts.{Counts}
 use Rattle.plan.specs.declared.stage.Answer.{Answer}
 use Rattle.plan.specs.declared.stage.Answer.the-variants.{GoOn, Accept, Reject}
-use Rattle.plan.specs.declared.ways.StageWay.the-variants.{Uncurtailed}
-use Rattle.plan.specs.Plan.{Stage, stages, total, End, last-reject1, last-reject2}
+use Rattle.plan.specs.declared.ways.StageWay.{StageWay}
+use Rattle.plan.specs.declared.ways.StageWay.the-variants.{Uncurtailed, Semi, Full}
+use Rattle.plan.specs.declared.ways.Way.{Way}
+use Rattle.plan.specs.Plan.{Stage, stages, first, total, End, last-reject1, last-reject2}
 use Rattle.plan.specs.Counts.{units, nongood, nonbad, no-units, add-units, counts}
-use Rattle.plan.specs.Stopping.{accepts, staged, earliest}
+use Rattle.plan.specs.Stopping.{accepts, full-at, staged, earliest, answer}
 use Rattle.plan.specs.Sample.{Classes, Completion, All-have, Rule, Stops, Faithful}
 
--- the earliest stop as a stopping rule, and the uncurtailed way as one
+-- the four ways as stopping rules
 abbrev pub earliest-rule : List Stage → Rule
 earliest-rule p h = earliest p (counts h)
 
-abbrev pub uncurtailed-rule : List Stage → Rule
-uncurtailed-rule p h = staged Uncurtailed p (counts h)
+abbrev pub staged-rule : StageWay → List Stage → Rule
+staged-rule way p h = staged way p (counts h)
 
 -- a history: classes, with no unit after its earliest stop
 pub record History (p : List Stage) (h : List ℕ) : Type 0 where
@@ -57,6 +59,15 @@ pub record Shape (w : List ℕ) : Type 0 where
   pub reject1-at : last-reject1 (stages w) ≡ getD w (length w - 3) 0
   pub reject2-at : last-reject2 (stages w) ≡ getD w (length w - 1) 0
 
+-- and of one that has a single stage: n, a1, r1, a2, r2
+pub record One-stage (w : List ℕ) : Type 0 where
+  pub row1 : getD w 1 0 + 1 ≡ getD w 2 0
+  pub row2 : getD w 3 0 + 1 ≡ getD w 4 0
+  pub rows : getD w 4 0 ≤ getD w 2 0
+  pub within : getD w 2 0 ≤ getD w 0 0
+  pub full : (c : Counts) → units c ≤ getD w 0 0 → staged Full (stages w) c ≡ full-at (getD w 0 0) (first w) c
+  pub past : (c : Counts) → getD w 0 0 < units c → staged Full (stages w) c ≡ GoOn
+
 -- of every admitted plan with the stages p
 pub record Promise (p : List Stage) : Type 0 where
   -- the states are right
@@ -72,7 +83,17 @@ pub record Promise (p : List Stage) : Type 0 where
   -- on every list, the earliest stop is that of 01's words
   pub earliest-stop : (x : List ℕ) → Classes x → (y : ℕ) (v : Answer) → Stops (earliest-rule p) x y v ↔ Least p x y v
   -- the uncurtailed way stops on every complete sample with the uncurtailed verdict
-  pub uncurtailed-stop : Faithful p (uncurtailed-rule p)
+  pub uncurtailed-stop : Faithful p (staged-rule Uncurtailed p)
+  -- where one of the other three ways stops, all completions have its verdict, and the earliest stop is no later
+  pub staged-sound : (way : StageWay) (x : List ℕ) (y : ℕ) (v : Answer) → Stops (staged-rule way p) x y v → All-have p (take y x) v
+  pub staged-later : (way : StageWay) (x : List ℕ) → Classes x → (y : ℕ) (v : Answer) → Stops (staged-rule way p) x y v
+      → (z : ℕ) × (z ≤ y) × Stops (earliest-rule p) x z v
+  -- semi and full reject at the same unit
+  pub same-rejection : (x : List ℕ) → Classes x → (y : ℕ) → Stops (staged-rule Semi p) x y Reject ↔ Stops (staged-rule Full p) x y Reject
+  -- with one stage full and earliest agree
+  pub one-stage : length p ≡ 1 → (c : Counts) → staged Full p c ≡ earliest p c
+  -- after S units no way stops
+  pub past : (way : Way) (c : Counts) → total p < units c → answer way p c ≡ GoOn
   -- within a stage, what comes before an undecided history is undecided
   pub within-stage : (h : List ℕ) (z : ℕ) → z ≤ length h → Same-stage p z (length h) → earliest p (counts h) ≡ GoOn → earliest p (counts (take z h)) ≡ GoOn
   -- as many nongood or bad units as the last rejection number are rejected

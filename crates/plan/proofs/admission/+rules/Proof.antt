@@ -1,7 +1,7 @@
 use Prim.Native.Nat.{ℕ, _<_}
 use borrow.Author.Needs.{needs}
 use native.Mathlib.Omega.{arith}
-use mathlib.Core.Path.{ap, sym, _∙_}
+use mathlib.Core.Path.{sym, _∙_}
 use lib.ListN.{length}
 use borrow.Author.Tests.{lt-leb, not-true, not-false}
 use Rattle.plan.proofs.Words.{no-units-here, too-many-here, accepts-crossed-here, rejects-crossed-here, at-last, last-fails, last-holds, step-fails-1, step-fails-2, step-holds}

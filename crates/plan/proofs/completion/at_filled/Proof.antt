@@ -1,7 +1,7 @@
 -- `plan::at_filled` meets its contract: an end that is past, or the end with the units added. Assumes nothing.
 use borrow.Author.Needs.{needs}
 use borrow.Author.Tests.{lt-ltb, le-ltb}
-use mathlib.Core.Path.{ap, sym, _∙_}
+use mathlib.Core.Path.{ap, _∙_}
 use native.Mathlib.Omega.{arith}
 use Rattle.plan.specs.Counts.{units}
 use Rattle.plan.specs.Plan.{first}

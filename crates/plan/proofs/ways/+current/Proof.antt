@@ -7,7 +7,7 @@ use lib.ListN.{length}
 use borrow.Fn.Kinds.{In}
 use borrow.Fn.PlainCycle.{Measures, is, falls, and}
 use Rattle.plan.proofs.Stages.{total-more}
-use Rattle.plan.proofs.FirstStage.{current-none, current-first, current-later}
+use Rattle.plan.proofs.FirstStage.{current-none, current-first, current-rest}
 use Rattle.plan.proofs.ways.current.Reads as current
 use Rattle.plan.proofs.ways.current.Kinds as kinds
 use Rattle.plan.proofs.ways.+current.Lts-current as lts
@@ -53,7 +53,7 @@ module _ (t : ℕ) where
   returns-3 : lts.Need-returns-3 (calls t) (given t) current.Post
   returns-3 c =
       let a = c .before .before .before .before .before .before .before .before .args in
-      c .current .ensures ∙ sym (current-later (a .plan .now) (a .way) (a .before) (a .c) (c .before .before .before .before .before .before .if1 .left) (c .before .before .if2 .left))
+      c .current .ensures ∙ sym (current-rest (a .plan .now) (a .way) (a .before) (a .c) (c .before .before .before .before .before .before .if1 .left) (c .before .before .if2 .left))
 
 pub +current-spec : {M : Type 1} → statement M
 +current-spec = close μ λ t. lts.spec (calls t) (given t) current.Post
