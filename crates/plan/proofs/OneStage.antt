@@ -100,6 +100,10 @@ last-within : (s : Stage) → leb (s .reject1) (0 + total (s ∷ [])) ≡ true �
 unfolding total
 last-within s e = omega (arith, leb-true (s .reject1) (0 + (s .size + 0)) e)
 
+units-within : (s : Stage) → leb (0 + total (s ∷ [])) 1000 ≡ true → s .size ≤ 1000
+unfolding total
+units-within s e = omega (arith, leb-true (0 + (s .size + 0)) 1000 e)
+
 at-stage-one : (s : Stage) (c : Counts) → units c ≤ s .size → staged Full (s ∷ []) c ≡ full-at (s .size) s c
 unfolding staged
 at-stage-one s c u =
@@ -120,6 +124,7 @@ one-stage-words w e n =
       row2 = eqb-true _ _ (rw only at (t .apart2));
       rows = leb-true _ _ (and-left (leb (getD w 4 0) (getD w 2 0)) true (rw only at (t .crossed)));
       within = last-within (first w) (rw only at (t .within1));
+      thousand = units-within (first w) (rw only at (t .thousand));
       full = λ c u. rw only (at-stage-one (first w) c u);
       past = λ c u. rw only (past-one (first w) c u);
     }

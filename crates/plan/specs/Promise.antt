@@ -65,6 +65,7 @@ pub record One-stage (w : List ℕ) : Type 0 where
   pub row2 : getD w 3 0 + 1 ≡ getD w 4 0
   pub rows : getD w 4 0 ≤ getD w 2 0
   pub within : getD w 2 0 ≤ getD w 0 0
+  pub thousand : getD w 0 0 ≤ 1000
   pub full : (c : Counts) → units c ≤ getD w 0 0 → staged Full (stages w) c ≡ full-at (getD w 0 0) (first w) c
   pub past : (c : Counts) → getD w 0 0 < units c → staged Full (stages w) c ≡ GoOn
 

@@ -1,12 +1,22 @@
 // The units of each class so far.
 ghost use mathlib.Core.Path.{_≡_};
 ghost use Prim.Native.Nat.{_+_, _≤_};
-ghost use Rattle.plan.specs.Counts.{units, add-units};
+ghost use Rattle.plan.specs.Counts.{units, no-units, add-units};
 
 pub struct Counts {
     pub good: u32,
     pub marginal: u32,
     pub bad: u32,
+}
+
+pub fn no_units() -> Counts
+    ensures { λ r. ⌜ r ≡ no-units ⌝ }
+{
+    Counts {
+        good: 0,
+        marginal: 0,
+        bad: 0,
+    }
 }
 
 // n units more of one class. Every class but good (0) and bad (2) counts as marginal.

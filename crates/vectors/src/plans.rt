@@ -1,7 +1,6 @@
 // Cases on a plan: whether it is admitted, and where it stops on a list of classes.
 use crate::line;
 use crate::print::Reply;
-use plan::Counts;
 
 fn class_of(digit: u8) -> u32 {
     match digit {
@@ -49,11 +48,7 @@ fn first_stop(words: &[u32], classes: &[u8]) -> Reply {
     if !plan::admitted(words) {
         return Reply::No(2);
     }
-    let mut c = Counts {
-        good: 0,
-        marginal: 0,
-        bad: 0,
-    };
+    let mut c = plan::no_units();
     let mut y = 0;
     while y <= 1000 {
         let state = plan::state(plan::earliest(words, c));

@@ -1,0 +1,59 @@
+-- One turn along a list of classes, and where no way stops any more. Assumes nothing.
+use Prim.Native.Nat.{ℕ, _+_, _≤_, _<_}
+use native.Mathlib.Omega.{arith}
+use native.Mathlib.Numerals.{add-one}
+use mathlib.Core.Path.{_≡_, refl, ap, ap₂, sym, _∙_}
+use mathlib.Core.Logic.{_≢_}
+use native.Mathlib.Decide.{decLt}
+use mathlib.Core.Bool.{true, false, _&&_}
+use mathlib.Core.List.{List, [], _∷_}
+use lib.ListN.{length, getD, drop}
+use lib.Seq.{drop-cons}
+use borrow.Author.Tests.{le-leb, lt-leb}
+use Rattle.plan.specs.declared.counts.Counts.{Counts}
+use Rattle.plan.specs.declared.stage.Answer.{Answer}
+use Rattle.plan.specs.declared.stage.Answer.the-variants.{GoOn, Accept, Reject}
+use Rattle.plan.specs.declared.ways.Way.{Way}
+use Rattle.plan.specs.Plan.{stages, total, admitted}
+use Rattle.plan.specs.Counts.{units, add-units}
+use Rattle.plan.specs.Stopping.{answer}
+use Rattle.plan.proofs.Promise.{promise, counting}
+use Rattle.judge.specs.Judge.{no-stop, stop-here, first-stop, are-classes}
+
+next : (xs : List ℕ) (i : ℕ) → i < length xs → drop i xs ≡ getD xs i 0 ∷ drop (i + 1) xs
+next xs i h = drop-cons xs i 0 h ∙ ap (λ (j : ℕ). getD xs i 0 ∷ drop j xs) (sym (add-one i))
+
+-- the class at i, the counts d with it, and the answer a to them
+pub turn : (rule : Counts → Answer) (xs : List ℕ) (i : ℕ) (c : Counts) → i < length xs →
+    (d : Counts) → d ≡ add-units (getD xs i 0) 1 c → (a : Answer) → a ≡ rule d →
+    first-stop rule c (drop i xs) ≡ stop-here d a (first-stop rule d (drop (i + 1) xs))
+turn rule xs i c h d e a f = rw (next xs i h, ← e, ← f)
+
+-- after S units
+pub none-past : (w : List ℕ) → admitted w ≡ true → (way : Way) (c : Counts) (xs : List ℕ) → total (stages w) ≤ units c
+    → first-stop (answer way (stages w)) c xs ≡ no-stop
+none-past w e way c [] h = refl
+none-past w e way c (x ∷ xs) h =
+    let u : units (add-units x 1 c) ≡ units c + 1 = counting .added x 1 c in
+    rw (promise w e .past way (add-units x 1 c) (omega arith)) (none-past w e way (add-units x 1 c) xs (omega arith))
+
+-- a stop is within S units
+pub stop-within : (w : List ℕ) → admitted w ≡ true → (way : Way) (c : Counts) (xs : List ℕ) → units (first-stop (answer way (stages w)) c xs .counts) ≤ total (stages w)
+stop-within w e way c [] = omega arith
+stop-within w e way c (x ∷ xs) = go (answer way (stages w) (add-units x 1 c)) refl (stop-within w e way (add-units x 1 c) xs)
+  where
+    here : (a : Answer) → answer way (stages w) (add-units x 1 c) ≡ a → a ≢ GoOn → Dec (total (stages w) < units (add-units x 1 c)) → units (add-units x 1 c) ≤ total (stages w)
+    here a f n (yes l) = absurd (n (sym f ∙ promise w e .past way (add-units x 1 c) l))
+    here a f n (no l) = omega arith
+
+    go : (a : Answer) → answer way (stages w) (add-units x 1 c) ≡ a → units (first-stop (answer way (stages w)) (add-units x 1 c) xs .counts) ≤ total (stages w)
+        → units (stop-here (add-units x 1 c) a (first-stop (answer way (stages w)) (add-units x 1 c) xs) .counts) ≤ total (stages w)
+    go GoOn f later = later
+    go Accept f later = here Accept f (λ g. let z : _≡_ {A = ℕ} 0 1 = cc in omega arith) (decLt _ _)
+    go Reject f later = here Reject f (λ g. let z : _≡_ {A = ℕ} 0 1 = cc in omega arith) (decLt _ _)
+
+pub class-fails : (xs : List ℕ) (i : ℕ) → i < length xs → 2 < getD xs i 0 → are-classes (drop i xs) ≡ false
+class-fails xs i h l = rw (next xs i h, lt-leb _ _ l)
+
+pub class-holds : (xs : List ℕ) (i : ℕ) → i < length xs → getD xs i 0 ≤ 2 → are-classes (drop i xs) ≡ are-classes (drop (i + 1) xs)
+class-holds xs i h l = rw (next xs i h, le-leb _ _ l)

@@ -1,0 +1,84 @@
+-- `judge::judge` meets its contract: the refusals in their order, and then the four ways and the event. Assumes nothing.
+use Prim.Native.Nat.{ℕ, _≤_}
+use native.Mathlib.Omega.{arith}
+use borrow.Author.Needs.{needs}
+use borrow.Author.Tests.{not-true, not-false}
+use mathlib.Core.Bool.{true, false}
+use mathlib.Core.List.{List}
+use mathlib.Core.Path.{_≡_, ap, sym, _∙_}
+use Rattle.plan.specs.declared.ways.StageWay.the-variants.{Uncurtailed, Semi, Full}
+use Rattle.plan.specs.declared.ways.Way.the-variants.{Staged, Earliest}
+use Rattle.plan.specs.Plan.{admitted}
+use Rattle.plan.specs.Counts.{no-units}
+use Rattle.plan.proofs.Promise.{shape}
+use Rattle.judge.specs.declared.list.Judgement.{Judgement}
+use Rattle.judge.specs.declared.list.Judged.{Judged}
+use Rattle.judge.specs.declared.list.Judged.the-variants.{Stops, Refused}
+use Rattle.judge.specs.Judge.{stop-of, event-of, are-classes, judgement, judged}
+use Rattle.judge.proofs.Along.{stop-within}
+use Rattle.judge.proofs.list.judge.Statement.{statement}
+use Rattle.judge.proofs.list.judge.Tie as tie
+
+module _ (w xs : List ℕ) where
+  no-plan : admitted w ≡ false → Refused 2 ≡ judged w xs
+  unfolding judged
+  no-plan e = rw e
+
+  no-class : admitted w ≡ true → are-classes xs ≡ false → Refused 7 ≡ judged w xs
+  unfolding judged
+  no-class e f = rw (e, f)
+
+  granted : admitted w ≡ true → are-classes xs ≡ true → Stops (judgement w xs) ≡ judged w xs
+  unfolding judged
+  granted e f = rw (e, f)
+
+returns : tie.Need-returns
+returns c =
+    let a = c .before .before .before .before .args in
+    no-plan (a .plan .now) (a .list .now) (sym (c .before .admitted .ensures) ∙ not-true _ (c .if1 .taken))
+
+-- where neither refusal holds
+ok : (c : tie.Else2) → admitted (c .before .before .before .before .before .before .args .plan .now) ≡ true
+ok c = sym (c .before .before .before .admitted .ensures) ∙ not-false _ (c .before .before .if1 .left)
+
+returns-2 : tie.Need-returns-2
+returns-2 c =
+    let a = c .before .before .before .before .before .before .args in
+    no-class (a .plan .now) (a .list .now)
+    (sym (c .before .before .before .admitted .ensures) ∙ not-false _ (c .before .before .if1 .left))
+    (sym (c .before .are-classes .ensures) ∙ not-true _ (c .if2 .taken))
+
+event-of-requires : tie.Need-event-of-requires
+event-of-requires c κs =
+    let e = c .before .before .before .before in
+    let a = e .before .before .before .before .before .before .args in
+    let u = stop-within (a .plan .now) (ok e) (Staged Full) no-units (a .list .now) in
+    (ok e, rw (c .before .before .before .first-stop .ensures) (omega (arith, u, shape (a .plan .now) (ok e) .thousand-units)))
+
+returns-3 : tie.Need-returns-3
+returns-3 c =
+    let e = c .before .before .before .before .before in
+    let a = e .before .before .before .before .before .before .args in
+    rw (
+      c .event-of .ensures,
+      c .before .before .before .before .first-stop .ensures,
+      c .before .before .before .first-stop2 .ensures,
+      c .before .before .first-stop3 .ensures,
+      c .before .first-stop4 .ensures,
+    )
+    (granted (a .plan .now) (a .list .now) (ok e) (sym (e .before .are-classes .ensures) ∙ not-false _ (e .if2 .left)))
+
+pub judge-spec : {M : Type 1} → statement M
+judge-spec =
+    tie.close
+    (tie.spec
+    (λ c κs. search needs)
+    returns
+    (λ c κs. search needs)
+    returns-2
+    (λ c κs. ok c)
+    (λ c κs. ok (c .before))
+    (λ c κs. ok (c .before .before))
+    (λ c κs. ok (c .before .before .before))
+    event-of-requires
+    returns-3)

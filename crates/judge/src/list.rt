@@ -1,0 +1,55 @@
+// A list of classes judged four ways.
+use crate::event::event_of;
+use crate::stop::{Stop, first_stop};
+use plan::{StageWay, Way};
+ghost use mathlib.Core.Path.{_≡_};
+ghost use Rattle.judge.specs.Judge.{are-classes, judged};
+
+// The stops of the four ways, and the event at full's stop.
+pub struct Judgement {
+    pub uncurtailed: Stop,
+    pub semi: Stop,
+    pub full: Stop,
+    pub earliest: Stop,
+    pub event: u32,
+}
+
+pub enum Judged {
+    Stops(Judgement),
+    Refused(u32),
+}
+
+// Is every class of the list one that a unit may have?
+fn are_classes(list: &[u8]) -> bool
+    ensures { λ r. ⌜ r ≡ are-classes (now (list .entry)) ⌝ }
+{
+    let mut i: usize = 0;
+    while i < list.len() {
+        if 2 < list[i] {
+            return false;
+        }
+        i += 1;
+    }
+    true
+}
+
+pub fn judge(plan: &[u32], list: &[u8]) -> Judged
+    ensures { λ r. ⌜ r ≡ judged (now (plan .entry)) (now (list .entry)) ⌝ }
+{
+    if !plan::admitted(plan) {
+        return Judged::Refused(2);
+    }
+    if !are_classes(list) {
+        return Judged::Refused(7);
+    }
+    let full = first_stop(plan, Way::Staged(StageWay::Full), list);
+    Judged::Stops(
+        Judgement {
+            uncurtailed: first_stop(plan, Way::Staged(StageWay::Uncurtailed), list),
+            semi: first_stop(plan, Way::Staged(StageWay::Semi), list),
+            full,
+            earliest: first_stop(plan, Way::Earliest, list),
+            event: event_of(plan, full),
+        },
+    )
+}
