@@ -2,10 +2,10 @@
 use Prim.Native.Nat.{ℕ, _+_, _≤_, _<_}
 use native.Mathlib.Omega.{arith}
 use native.Mathlib.Numerals.{add-one}
-use mathlib.Core.Path.{_≡_, refl, ap, ap₂, sym, _∙_}
+use mathlib.Core.Path.{_≡_, refl, ap, sym, _∙_}
 use mathlib.Core.Logic.{_≢_}
 use native.Mathlib.Decide.{decLt}
-use mathlib.Core.Bool.{true, false, _&&_}
+use mathlib.Core.Bool.{true, false}
 use mathlib.Core.List.{List, [], _∷_}
 use lib.ListN.{length, getD, drop}
 use lib.Seq.{drop-cons}

@@ -1,6 +1,7 @@
 // The event at full's stop of a plan with one stage. Document 01, "Lists, events, estimates"; 003, 5.5.1.
 use crate::stop::Stop;
-use plan::{Answer, Counts};
+use plan::Answer;
+use plan::Counts;
 ghost use mathlib.Core.Path.{_≡_};
 ghost use mathlib.Core.Bool.{true, _&&_};
 ghost use Prim.Native.Nat.{_≤_};

@@ -4,5 +4,7 @@ mod event;
 mod list;
 mod stop;
 
-pub use list::{Judged, Judgement, judge};
+pub use list::Judged;
+pub use list::Judgement;
+pub use list::judge;
 pub use stop::Stop;

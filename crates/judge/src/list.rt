@@ -1,7 +1,9 @@
 // A list of classes judged four ways.
 use crate::event::event_of;
-use crate::stop::{Stop, first_stop};
-use plan::{StageWay, Way};
+use crate::stop::Stop;
+use crate::stop::first_stop;
+use plan::StageWay;
+use plan::Way;
 ghost use mathlib.Core.Path.{_≡_};
 ghost use Rattle.judge.specs.Judge.{are-classes, judged};
 
@@ -43,13 +45,11 @@ pub fn judge(plan: &[u32], list: &[u8]) -> Judged
         return Judged::Refused(7);
     }
     let full = first_stop(plan, Way::Staged(StageWay::Full), list);
-    Judged::Stops(
-        Judgement {
-            uncurtailed: first_stop(plan, Way::Staged(StageWay::Uncurtailed), list),
-            semi: first_stop(plan, Way::Staged(StageWay::Semi), list),
-            full,
-            earliest: first_stop(plan, Way::Earliest, list),
-            event: event_of(plan, full),
-        },
-    )
+    Judged::Stops(Judgement {
+        uncurtailed: first_stop(plan, Way::Staged(StageWay::Uncurtailed), list),
+        semi: first_stop(plan, Way::Staged(StageWay::Semi), list),
+        full,
+        earliest: first_stop(plan, Way::Earliest, list),
+        event: event_of(plan, full),
+    })
 }

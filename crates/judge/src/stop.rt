@@ -1,5 +1,7 @@
 // Where a way stops along a list of classes.
-use plan::{Answer, Counts, Way};
+use plan::Answer;
+use plan::Counts;
+use plan::Way;
 ghost use mathlib.Core.Path.{_≡_};
 ghost use mathlib.Core.Bool.{true};
 ghost use Rattle.plan.specs.Plan.{admitted};

@@ -9,17 +9,11 @@ mod ways;
 
 pub use admission::admitted;
 pub use completion::earliest;
-pub use counts::{
-    Counts,
-    add_units,
-    no_units,
-};
-pub use stage::{
-    Answer,
-    state,
-};
-pub use ways::{
-    StageWay,
-    Way,
-    answer,
-};
+pub use counts::Counts;
+pub use counts::add_units;
+pub use counts::no_units;
+pub use stage::Answer;
+pub use stage::state;
+pub use ways::StageWay;
+pub use ways::Way;
+pub use ways::answer;

@@ -1,20 +1,18 @@
 -- `judge::judge` meets its contract: the refusals in their order, and then the four ways and the event. Assumes nothing.
-use Prim.Native.Nat.{ℕ, _≤_}
+use Prim.Native.Nat.{ℕ}
 use native.Mathlib.Omega.{arith}
 use borrow.Author.Needs.{needs}
 use borrow.Author.Tests.{not-true, not-false}
 use mathlib.Core.Bool.{true, false}
 use mathlib.Core.List.{List}
-use mathlib.Core.Path.{_≡_, ap, sym, _∙_}
-use Rattle.plan.specs.declared.ways.StageWay.the-variants.{Uncurtailed, Semi, Full}
-use Rattle.plan.specs.declared.ways.Way.the-variants.{Staged, Earliest}
+use mathlib.Core.Path.{_≡_, sym, _∙_}
+use Rattle.plan.specs.declared.ways.StageWay.the-variants.{Full}
+use Rattle.plan.specs.declared.ways.Way.the-variants.{Staged}
 use Rattle.plan.specs.Plan.{admitted}
 use Rattle.plan.specs.Counts.{no-units}
 use Rattle.plan.proofs.Promise.{shape}
-use Rattle.judge.specs.declared.list.Judgement.{Judgement}
-use Rattle.judge.specs.declared.list.Judged.{Judged}
 use Rattle.judge.specs.declared.list.Judged.the-variants.{Stops, Refused}
-use Rattle.judge.specs.Judge.{stop-of, event-of, are-classes, judgement, judged}
+use Rattle.judge.specs.Judge.{event-of, are-classes, judgement, judged}
 use Rattle.judge.proofs.Along.{stop-within}
 use Rattle.judge.proofs.list.judge.Statement.{statement}
 use Rattle.judge.proofs.list.judge.Tie as tie

@@ -1,6 +1,6 @@
 -- `judge::first_stop` meets its contract. The loop's invariant: c counts the first i classes, and the stop lies after them.
 -- Assumes nothing.
-use Prim.Native.Nat.{_+_, _-_, _≤_}
+use Prim.Native.Nat.{_-_, _≤_}
 use native.Mathlib.Omega.{arith}
 use mathlib.Core.Path.{_≡_, ap, sym, _∙_}
 use mathlib.Core.Logic.{⊎-elim}

@@ -1,0 +1,224 @@
+-- The laws of judging, for every admitted plan and list. Assumes nothing.
+use Prim.Native.Nat.{ℕ, _+_, _-_, _≤_, _<_}
+use native.Mathlib.Omega.{arith}
+use native.Mathlib.Decide.{decLt}
+use mathlib.Core.Path.{_≡_, refl, ap, sym, _∙_}
+use mathlib.Core.Logic.{_↔_, _≢_, _⊎_, inl, inr}
+use mathlib.Core.Bool.{true, and-eq-true-iff}
+use mathlib.Core.List.{List, [], _∷_}
+use lib.ListN.{length, take, getD}
+use lib.Seq.{take-take, length-take-le}
+use lib.Dec.{leb}
+use borrow.Author.Tests.{leb-true}
+use Rattle.plan.specs.declared.counts.Counts.{Counts}
+use Rattle.plan.specs.declared.stage.Answer.{Answer}
+use Rattle.plan.specs.declared.stage.Answer.the-variants.{GoOn, Accept, Reject}
+use Rattle.plan.specs.declared.ways.StageWay.{StageWay}
+use Rattle.plan.specs.declared.ways.StageWay.the-variants.{Semi, Full}
+use Rattle.plan.specs.declared.ways.Way.{Way}
+use Rattle.plan.specs.declared.ways.Way.the-variants.{Staged, Earliest}
+use Rattle.plan.specs.Plan.{stages, first, admitted}
+use Rattle.plan.specs.Counts.{units, no-units, add-units, counts}
+use Rattle.plan.specs.Stopping.{full-at, staged, answer}
+use Rattle.plan.specs.Sample.{Classes, Stops}
+use Rattle.plan.specs.Promise.{earliest-rule, staged-rule, One-stage}
+use Rattle.plan.proofs.Promise.{shape, one-stage, promise, counting}
+use Rattle.plan.proofs.Refusals.{refused-exactly}
+use Rattle.judge.specs.declared.stop.Stop.{Stop}
+use Rattle.judge.specs.declared.list.Judged.{Judged}
+use Rattle.judge.specs.declared.list.Judged.the-variants.{Refused, Stops as Stopped-list}
+use Rattle.judge.specs.Event.{events, how-many}
+use Rattle.judge.specs.Judge.{first-stop, stop-of, are-classes, refusals, judgement, judged}
+use Rattle.judge.specs.Laws.{at, rule-of, Refused-rightly, Stop-laws, Class-laws}
+use Rattle.judge.proofs.Least.{Stopped, Passed, walked, next-counts}
+use Rattle.judge.proofs.Events.{accepted, rejected}
+use Rattle.judge.proofs.FullStop.{at-acceptance, at-rejection}
+
+-- ---- refusals
+
+pub refused-rightly : (plan list : List ℕ) → Refused-rightly plan list
+unfolding judged
+refused-rightly plan list n =
+    refused-exactly Judged Refused (refusals plan list) (Stopped-list (judgement plan list)) (λ m k e. cc) (λ k e. let z : _≡_ {A = ℕ} 0 1 = cc in omega arith) n
+
+-- ---- stops
+
+module _ (w : List ℕ) (e : admitted w ≡ true) where
+  -- no way stops before the first unit
+  begins : (way : Way) → answer way (stages w) no-units ≡ GoOn
+  begins Earliest = promise w e .empty
+  begins (Staged way) = go (staged way (stages w) no-units) refl
+    where
+      stop : (v : Answer) → v ≢ GoOn → staged way (stages w) no-units ≡ v → ⊥
+      stop v n f =
+          let s : Stops (staged-rule way (stages w)) [] 0 v
+          = record { within = omega arith; there = ap (staged way (stages w)) (counting .empty) ∙ f; decides = n; first = λ z l. absurd (omega arith) } in
+          let t = promise w e .staged-later way [] tt 0 v s in
+          let none : t .0 ≡ 0 = omega (arith, t .1) in
+          let there : earliest-rule (stages w) (take 0 []) ≡ v = rw none at (t .2 .there) in
+          n (sym there ∙ ap (answer Earliest (stages w)) (counting .empty) ∙ promise w e .empty)
+
+      go : (v : Answer) → staged way (stages w) no-units ≡ v → staged way (stages w) no-units ≡ GoOn
+      go GoOn f = f
+      go Accept f = absurd (stop Accept (λ g. let z : _≡_ {A = ℕ} 0 1 = cc in omega arith) f)
+      go Reject f = absurd (stop Reject (λ g. let z : _≡_ {A = ℕ} 0 1 = cc in omega arith) f)
+
+  module _ (way : Way) (xs : List ℕ) where
+    abbrev rule : Counts → Answer
+    rule = answer way (stages w)
+
+    found : Stopped (answer way (stages w)) xs 0 (stop-of way w xs) ⊎ Passed (answer way (stages w)) xs 0 (stop-of way w xs)
+    found = rw (counting .empty) at (walked rule xs)
+
+    at-none : rule-of way w (take 0 xs) ≡ GoOn
+    at-none = ap rule (counting .empty) ∙ begins way
+
+    -- the first place that stops is the stop
+    same-place : (y : ℕ) (v : Answer) → Stops (rule-of way w) xs y v → (t : Stopped (answer way (stages w)) xs 0 (stop-of way w xs)) → t .y ≡ y
+    same-place y v s t = go (decLt (t .y) y) (decLt y (t .y)) (decLt 0 y)
+      where
+        go : Dec (t .y < y) → Dec (y < t .y) → Dec (0 < y) → t .y ≡ y
+        go (yes l) d f = absurd (t .decides (s .first (t .y) l))
+        go (no l) (no m) f = omega arith
+        go (no l) (yes m) (yes k) = absurd (s .decides (sym (s .there) ∙ t .first y k m))
+        go (no l) (yes m) (no k) = let none : y ≡ 0 = omega arith in absurd (s .decides (sym (s .there) ∙ rw none at-none))
+
+    stop-is : (y : ℕ) (v : Answer) → Stops (rule-of way w) xs y v → stop-of way w xs ≡ record { answer = v; counts = counts (take y xs) }
+    stop-is y v s = go found
+      where
+        go : Stopped (answer way (stages w)) xs 0 (stop-of way w xs) ⊎ Passed (answer way (stages w)) xs 0 (stop-of way w xs)
+            → stop-of way w xs ≡ record { answer = v; counts = counts (take y xs) }
+        go (inl t) =
+            t .stop ∙ ap (λ (z : ℕ). record { answer = rule (counts (take z xs)); counts = counts (take z xs) }) (same-place y v s t)
+            ∙ ap (λ (a : Answer). record { answer = a; counts = counts (take y xs) }) (s .there)
+        go (inr t) = elim (decLt 0 y) [ yes k ↦ absurd (s .decides (sym (s .there) ∙ t .never y k (s .within))) | no k ↦ let none : y ≡ 0 = omega arith in absurd (s .decides (sym (s .there) ∙ rw none at-none)) ]
+
+    is-stop : stop-of way w xs .answer ≢ GoOn → Stops (rule-of way w) xs (at (stop-of way w xs)) (stop-of way w xs .answer)
+    is-stop n = go found
+      where
+        go : Stopped (answer way (stages w)) xs 0 (stop-of way w xs) ⊎ Passed (answer way (stages w)) xs 0 (stop-of way w xs)
+            → Stops (rule-of way w) xs (at (stop-of way w xs)) (stop-of way w xs .answer)
+        go (inr t) = absurd (n (ap (λ (s : Stop). s .answer) (t .stop)))
+        go (inl t) =
+            let u : units (counts (take (t .y) xs)) ≡ t .y = counting .length-of (take (t .y) xs) ∙ length-take-le (t .y) xs (t .within) in
+            rw (t .stop, u)
+            (record {
+              within = t .within;
+              there = refl;
+              decides = t .decides;
+              first = λ z l. elim (decLt 0 z) [ yes k ↦ t .first z k l | no k ↦ let none : z ≡ 0 = omega arith in rw none at-none ];
+            })
+
+    not-reached : stop-of way w xs .answer ≡ GoOn → at (stop-of way w xs) ≡ 0
+    not-reached g = go found
+      where
+        go : Stopped (answer way (stages w)) xs 0 (stop-of way w xs) ⊎ Passed (answer way (stages w)) xs 0 (stop-of way w xs) → at (stop-of way w xs) ≡ 0
+        go (inl t) = absurd (t .decides (sym (ap (λ (s : Stop). s .answer) (t .stop)) ∙ g))
+        go (inr t) = ap at (t .stop)
+
+    stops : (y : ℕ) (v : Answer) → Stops (rule-of way w) xs y v ↔ ((at (stop-of way w xs) ≡ y) × (stop-of way w xs .answer ≡ v) × (v ≢ GoOn))
+    stops y v = (
+      λ s.
+          let is = stop-is y v s in
+          (ap at is ∙ counting .length-of (take y xs) ∙ length-take-le y xs (s .within), ap (λ (t : Stop). t .answer) is, s .decides),
+      λ f. rw (f .0, f .1) at (is-stop (λ g. f .2 (sym (f .1) ∙ g))),
+    )
+
+  no-say : (way : Way) (xs ys : List ℕ) → stop-of way w xs .answer ≢ GoOn → at (stop-of way w xs) ≤ length ys
+      → take (at (stop-of way w xs)) ys ≡ take (at (stop-of way w xs)) xs → stop-of way w ys ≡ stop-of way w xs
+  no-say way xs ys n l same =
+      let s = is-stop way xs n in
+      let y : ℕ = at (stop-of way w xs) in
+      let t : Stops (rule-of way w) ys (at (stop-of way w xs)) (stop-of way w xs .answer) = record {
+        within = l;
+        there = ap (rule-of way w) same ∙ s .there;
+        decides = s .decides;
+        first = λ z m. ap (rule-of way w) (sym (take-take z y ys (omega arith)) ∙ ap (take z) same ∙ take-take z y xs (omega arith)) ∙ s .first z m;
+      } in
+      stop-is way ys y (stop-of way w xs .answer) t ∙ ap (λ (h : List ℕ). record { answer = stop-of way w xs .answer; counts = counts h }) same
+      ∙ sym (stop-is way xs y (stop-of way w xs .answer) s)
+
+  -- ---- one stage
+
+  module _ (n : length w ≡ 5) where
+    one : length (stages w) ≡ 1
+    one = omega (arith, shape w e .whole)
+
+    agree : (c : Counts) (xs : List ℕ) → first-stop (answer (Staged Full) (stages w)) c xs ≡ first-stop (answer Earliest (stages w)) c xs
+    agree c [] = refl
+    agree c (x ∷ xs) = rw (promise w e .one-stage one (add-units x 1 c), agree (add-units x 1 c) xs)
+
+    -- full goes on after i units of the list and stops with the next one
+    next-event : (xs : List ℕ) (i : ℕ) → i < length xs → staged Full (stages w) (counts (take i xs)) ≡ GoOn
+        → (v : Answer) → v ≢ GoOn → staged Full (stages w) (counts (take (i + 1) xs)) ≡ v
+        → how-many (events (getD w 0 0) (getD w 2 0) (getD w 4 0) (counts (take (i + 1) xs))) ≡ 1
+    next-event xs i l g v d f = rw c-is (go v d (sym (o .full (add-units (getD xs i 0) 1 (counts (take i xs))) u) ∙ rw c-is at f))
+      where
+        o : One-stage w
+        o = one-stage w e n
+
+        c-is : counts (take (i + 1) xs) ≡ add-units (getD xs i 0) 1 (counts (take i xs))
+        c-is = next-counts (answer (Staged Full) (stages w)) xs i l
+
+        u : units (add-units (getD xs i 0) 1 (counts (take i xs))) ≤ getD w 0 0
+        u = elim (decLt (getD w 0 0) (units (add-units (getD xs i 0) 1 (counts (take i xs))))) [
+          | yes m ↦ absurd (d (sym f ∙ ap (staged Full (stages w)) c-is ∙ o .past (add-units (getD xs i 0) 1 (counts (take i xs))) m))
+          | no m ↦ omega arith
+        ]
+
+        before : full-at (getD w 0 0) (first w) (counts (take i xs)) ≡ GoOn
+        before = sym (o .full (counts (take i xs)) (omega (arith, u, counting .added (getD xs i 0) 1 (counts (take i xs))))) ∙ g
+
+        go : (a : Answer) → a ≢ GoOn → full-at (getD w 0 0) (first w) (add-units (getD xs i 0) 1 (counts (take i xs))) ≡ a
+            → how-many (events (getD w 0 0) (getD w 2 0) (getD w 4 0) (add-units (getD xs i 0) 1 (counts (take i xs)))) ≡ 1
+        go GoOn m h = absurd (m refl)
+        go Accept m h = accepted _ _ _ _ (at-acceptance (getD w 0 0) (first w) (getD xs i 0) (counts (take i xs)) (o .row1) (o .row2) (o .rows) (o .within) u before h)
+        go Reject m h = rejected _ _ _ _ (at-rejection (getD w 0 0) (first w) (getD xs i 0) (counts (take i xs)) (o .row1) (o .row2) (o .rows) (o .within) u before h)
+
+    one-event : (xs : List ℕ) → stop-of (Staged Full) w xs .answer ≢ GoOn
+        → how-many (events (getD w 0 0) (getD w 2 0) (getD w 4 0) (stop-of (Staged Full) w xs .counts)) ≡ 1
+    one-event xs d =
+        let s = is-stop (Staged Full) xs d in
+        let y : ℕ = at (stop-of (Staged Full) w xs) in
+        let some : 0 < y = elim (decLt 0 y) [ yes k ↦ k | no k ↦ let none : y ≡ 0 = omega arith in absurd (d (sym (s .there) ∙ rw none (at-none (Staged Full) xs))) ] in
+        let last : y - 1 + 1 ≡ y = omega arith in
+        rw (ap (λ (t : Stop). t .counts) (stop-is (Staged Full) xs y (stop-of (Staged Full) w xs .answer) s), ← last)
+        (next-event xs (y - 1) (omega (arith, s .within)) (s .first (y - 1) (omega arith)) (stop-of (Staged Full) w xs .answer) d (rw last (s .there)))
+
+pub stop-laws : (plan list : List ℕ) → admitted plan ≡ true → Stop-laws plan list
+stop-laws w xs e = record {
+  stops = λ way. stops w e way xs;
+  not-reached = λ way. not-reached w e way xs;
+  no-say = λ way. no-say w e way xs;
+  full-verdict = λ n. promise w e .staged-sound Full xs _ _ (is-stop w e (Staged Full) xs n);
+  one-stage = λ n. agree w e n no-units xs;
+  one-event = λ n. one-event w e n xs;
+}
+
+-- ---- lists of classes that a unit may have
+
+classes-of : (xs : List ℕ) → are-classes xs ≡ true → Classes xs
+classes-of [] e = tt
+classes-of (x ∷ xs) e = (leb-true x 2 (and-eq-true-iff (leb x 2) _ .0 e .0), classes-of xs (and-eq-true-iff (leb x 2) _ .0 e .1))
+
+pub class-laws : (plan list : List ℕ) → admitted plan ≡ true → are-classes list ≡ true → Class-laws plan list
+class-laws w xs e f = record {
+  no-later = λ n.
+      let s = is-stop w e (Staged Full) xs n in
+      let t = promise w e .staged-later Full xs c _ _ s in
+      let h = stops w e Earliest xs (t .0) _ .0 (t .2) in
+      (omega (arith, t .1, h .0), h .1);
+  same-rejection = (λ g. both Semi Full (promise w e .same-rejection xs c _ .0) g .1, λ g. both Full Semi (promise w e .same-rejection xs c _ .1) g .1);
+  same-unit = λ g. sym (both Semi Full (promise w e .same-rejection xs c _ .0) g .0);
+}
+  where
+    c : Classes xs
+    c = classes-of xs f
+
+    both : (a b : StageWay) → (Stops (staged-rule a (stages w)) xs (at (stop-of (Staged a) w xs)) Reject → Stops (staged-rule b (stages w)) xs (at (stop-of (Staged a) w xs)) Reject)
+        → stop-of (Staged a) w xs .answer ≡ Reject
+        → (at (stop-of (Staged b) w xs) ≡ at (stop-of (Staged a) w xs)) × (stop-of (Staged b) w xs .answer ≡ Reject)
+    both a b same g =
+        let s = stops w e (Staged a) xs (at (stop-of (Staged a) w xs)) Reject .1 (refl, g, λ h. let z : _≡_ {A = ℕ} 0 1 = cc in omega arith) in
+        let t = stops w e (Staged b) xs (at (stop-of (Staged a) w xs)) Reject .0 (same s) in
+        (t .0, t .1)
