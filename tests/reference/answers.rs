@@ -1,15 +1,17 @@
 //! Case lines and their answers. Fields are parted by one space:
 //!
 //! - `a` and plan words: `admitted` or `no 2` (01 "Plan", "Refused").
-//! - `e`, a dot with the classes of a list, and plan words: units and state at
-//!   the earliest stop, `0 0` if it isn't reached, or `no 2`.
+//! - `j`, a dot with the classes of a list as digits, and plan words: stop and
+//!   state of uncurtailed, semi, full and earliest and the event, or `no 2`, or
+//!   `no 7` for a class above 2 anywhere (01 "Lists, events, estimates").
 
-use crate::earliest::{by_both, Stop, Table};
+use crate::earliest::Table;
+use crate::judge::{judge, Judgement};
 use crate::plan::Plan;
 
 pub enum Case {
     Admission(Vec<u32>),
-    Earliest(Vec<u8>, Vec<u32>),
+    Judged(Vec<u8>, Vec<u32>),
 }
 
 impl Case {
@@ -17,9 +19,9 @@ impl Case {
         let fields: Vec<&str> = line.split(' ').collect();
         let case = match fields[..] {
             ["a", ref words @ ..] => numbers(words).map(Case::Admission),
-            ["e", list, ref words @ ..] => classes(list)
+            ["j", list, ref words @ ..] => classes(list)
                 .zip(numbers(words))
-                .map(|(list, words)| Case::Earliest(list, words)),
+                .map(|(list, words)| Case::Judged(list, words)),
             _ => None,
         };
         case.ok_or_else(|| format!("not a case: {line}"))
@@ -37,19 +39,17 @@ fn number(field: &str) -> Option<u32> {
 
 /// The classes after the dot.
 pub fn classes(field: &str) -> Option<Vec<u8>> {
-    let class = |byte: u8| (b'0'..=b'2').contains(&byte).then(|| byte - b'0');
+    let class = |byte: u8| byte.is_ascii_digit().then(|| byte - b'0');
     field.strip_prefix('.')?.bytes().map(class).collect()
 }
+
+/// A refusal is its number.
+pub type Reply<T> = Result<T, u32>;
 
 /// Keeps the plan last asked for, since its cases mostly follow each other and
 /// its table is the costly part.
 pub struct Answerer {
-    kept: Option<(Vec<u32>, Judge)>,
-}
-
-struct Judge {
-    plan: Plan,
-    table: Table,
+    kept: Option<(Vec<u32>, Plan, Table)>,
 }
 
 impl Answerer {
@@ -58,30 +58,36 @@ impl Answerer {
     }
 
     pub fn answer(&mut self, line: &str) -> Result<String, String> {
-        let answer = match Case::parse(line)? {
-            Case::Admission(words) => Plan::admitted(&words).map(|_| "admitted".to_string()),
-            Case::Earliest(list, words) => self.earliest(&list, &words).map(stop_text),
+        let reply = match Case::parse(line)? {
+            Case::Admission(words) => Plan::admitted(&words)
+                .map(|_| "admitted".to_string())
+                .ok_or(2),
+            Case::Judged(list, words) => self.judged(&list, &words).map(|it| judged_text(&it)),
         };
-        Ok(answer.unwrap_or_else(|| "no 2".to_string()))
+        Ok(reply.unwrap_or_else(|number| format!("no {number}")))
     }
 
-    /// None if the plan isn't admitted.
-    pub fn earliest(&mut self, list: &[u8], words: &[u32]) -> Option<Stop> {
-        let judge = self.judge(words)?;
-        Some(by_both(&judge.plan, &judge.table, list))
+    /// Where several refusals apply the lowest is given (01 "Refused").
+    pub fn judged(&mut self, list: &[u8], words: &[u32]) -> Reply<Judgement> {
+        let (plan, table) = self.plan(words).ok_or(2_u32)?;
+        if list.iter().any(|&class| class > 2) {
+            return Err(7);
+        }
+        Ok(judge(plan, table, list))
     }
 
-    fn judge(&mut self, words: &[u32]) -> Option<&Judge> {
-        if self.kept.as_ref().is_none_or(|(kept, _)| kept != words) {
+    fn plan(&mut self, words: &[u32]) -> Option<(&Plan, &Table)> {
+        if self.kept.as_ref().is_none_or(|(kept, ..)| kept != words) {
             let plan = Plan::admitted(words)?;
             let table = Table::new(&plan);
-            self.kept = Some((words.to_vec(), Judge { plan, table }));
+            self.kept = Some((words.to_vec(), plan, table));
         }
-        self.kept.as_ref().map(|(_, judge)| judge)
+        self.kept.as_ref().map(|(_, plan, table)| (plan, table))
     }
 }
 
-fn stop_text(stop: Stop) -> String {
-    let (units, state) = stop.unwrap_or((0, 0));
-    format!("{units} {state}")
+fn judged_text(judgement: &Judgement) -> String {
+    let stops = judgement.stops.map(|stop| stop.unwrap_or((0, 0)));
+    let fields = stops.map(|(units, state)| format!("{units} {state}"));
+    format!("{} {}", fields.join(" "), judgement.event)
 }

@@ -18,6 +18,7 @@ pub fn all() -> Vec<String> {
     cases.known_lots();
     cases.admission_edges();
     cases.lists_at_limits();
+    cases.refused_classes();
     cases.random_plans();
     cases.random_words();
     let mut seen = HashSet::new();
@@ -35,14 +36,14 @@ impl Cases {
         self.lines.push(format!("a{}", fields(words)));
     }
 
-    fn earliest(&mut self, list: &[u8], words: &[u32]) {
+    fn judged(&mut self, list: &[u8], words: &[u32]) {
         let classes: String = list.iter().map(u8::to_string).collect();
         self.listed(&format!(".{classes}"), words);
     }
 
     /// A list written as in a case line.
     fn listed(&mut self, list: &str, words: &[u32]) {
-        self.lines.push(format!("e {list}{}", fields(words)));
+        self.lines.push(format!("j {list}{}", fields(words)));
     }
 
     fn known_lots(&mut self) {
@@ -64,10 +65,10 @@ impl Cases {
         }
         for words in edges::WRAPS {
             self.admission(words);
-            self.earliest(&[0, 1, 2, 0, 0], words);
+            self.judged(&[0, 1, 2, 0, 0], words);
         }
-        self.earliest(&[], &[]);
-        self.earliest(&[0, 1, 2], &TWO[..7]);
+        self.judged(&[], &[]);
+        self.judged(&[0, 1, 2], &TWO[..7]);
         for words in [A, B, ONE, TWO, THREE, SEVEN] {
             self.borders(words);
         }
@@ -100,7 +101,7 @@ impl Cases {
         }
         for edge in edges::edges() {
             self.lists(&edge.kept());
-            self.earliest(&[2, 0, 1], &edge.broken());
+            self.judged(&[2, 0, 1], &edge.broken());
         }
     }
 
@@ -139,9 +140,9 @@ impl Cases {
             return;
         };
         for class in 0..3 {
-            self.earliest(&vec![class; plan.units()], words);
+            self.judged(&vec![class; plan.units()], words);
         }
-        self.earliest(&[], words);
+        self.judged(&[], words);
     }
 
     /// A list of each random kind for an admitted plan.
@@ -159,7 +160,7 @@ impl Cases {
         let long = units + random.index(4);
         let undecided = draw::held(random, &plan, &table, units + 1, long);
         for list in [mixed, near, held, undecided] {
-            self.earliest(&list, words);
+            self.judged(&list, words);
             self.cut(&plan, &table, &list, words);
         }
     }
@@ -170,10 +171,28 @@ impl Cases {
             return;
         };
         match self.random.index(8) {
-            0 => self.earliest(&list[..stop], words),
-            1 => self.earliest(&list[..stop - 1], words),
+            0 => self.judged(&list[..stop], words),
+            1 => self.judged(&list[..stop - 1], words),
             _ => {}
         }
+    }
+
+    /// Classes above 2 at the first place, at and past the stops, and past S.
+    fn refused_classes(&mut self) {
+        for words in [A, B, ONE, SEVEN] {
+            let plan = Plan::admitted(words).expect("the hand-written plans are admitted");
+            let units = plan.units();
+            for place in [0, 1, units - 1, units, units + 2] {
+                for class in [3, 9] {
+                    let mut list = vec![0; units + 3];
+                    list[place] = class;
+                    self.judged(&list, words);
+                    self.judged(&list[..=place], words);
+                }
+            }
+        }
+        self.judged(&[3], &A[..4]);
+        self.judged(&[0, 3], &[5, 2, 3, 1, 3]);
     }
 
     /// Any words, mostly whole stages.
@@ -189,6 +208,6 @@ impl Cases {
     }
 }
 
-fn fields(words: &[u32]) -> String {
+pub fn fields(words: &[u32]) -> String {
     words.iter().map(|word| format!(" {word}")).collect()
 }

@@ -19,6 +19,20 @@ pub const KNOWN: &[(&[u32], &str, usize, u8)] = &[
     (B, ".20000000000", 9, 1),
 ];
 
+/// Lists with stop and state of the four ways and the event, as 01 has them; an
+/// uncurtailed or semi stop that 01 leaves out was found by hand.
+pub const JUDGED: &[(&[u32], &str, &str)] = &[
+    (A, ".0000", "0 0 0 0 4 1 4 1 1"),
+    (A, ".0001", "0 0 0 0 4 1 4 1 3"),
+    (A, ".000", "0 0 0 0 0 0 0 0 0"),
+    (A, ".11000", "5 1 5 1 5 1 5 1 2"),
+    (A, ".22", "0 0 2 2 2 2 2 2 4"),
+    (A, ".112", "0 0 3 2 3 2 3 2 5"),
+    (A, ".122", "0 0 3 2 3 2 3 2 6"),
+    (B, ".0000000000", "10 1 10 1 10 1 8 1 0"),
+    (B, ".20000000000", "11 1 11 1 11 1 9 1 0"),
+];
+
 /// Lists near those of `KNOWN`, for A and for B, each after a dot.
 pub const NEAR_A: &str = ". .0 .1 .2 .00 .01 .02 .11 .12 .20 .21 .001 .002 .011 .012 .100 .111 \
     .121 .200 .202 .0002 .0011 .0012 .0101 .0110 .0120 .1001 .1002 .1010 .2000 .2001 .2010 .00000 \

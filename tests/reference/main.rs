@@ -15,6 +15,7 @@ mod cases;
 mod draw;
 mod earliest;
 mod edges;
+mod judge;
 mod plan;
 mod random;
 mod selftest;

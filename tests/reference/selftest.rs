@@ -1,14 +1,16 @@
 //! Checks of this program itself.
 
-use crate::answers::classes;
+use crate::answers::{classes, Answerer};
+use crate::cases::fields;
 use crate::draw;
 use crate::earliest::{by_completions, by_table, Stop, Table};
-use crate::edges::{edges, runs, A, B, KNOWN, ONE, SEVEN, THREE, TWO, WRAPS};
+use crate::edges::{edges, runs, A, B, JUDGED, KNOWN, ONE, SEVEN, THREE, TWO, WRAPS};
 use crate::plan::{broken, Plan};
 use crate::random::Random;
 
 pub fn run() -> Result<(), String> {
     known_lots()?;
+    known_judgements()?;
     admission_edges()?;
     let plans = 4000;
     let stops = random_lists(plans)?;
@@ -24,6 +26,19 @@ fn known_lots() -> Result<(), String> {
         let stop = two_ways(&plan, &Table::new(&plan), &list)?;
         if stop.unwrap_or((0, 0)) != (units, state) {
             return Err(format!("known lot {list:?} of {words:?} stops at {stop:?}"));
+        }
+    }
+    Ok(())
+}
+
+/// The rows of 01 "Known lots" with full's stop and an event, or with B.
+fn known_judgements() -> Result<(), String> {
+    let mut answerer = Answerer::new();
+    for &(words, list, expected) in JUDGED {
+        let line = format!("j {list}{}", fields(words));
+        let answer = answerer.answer(&line)?;
+        if answer != expected {
+            return Err(format!("{line} gives {answer}, not {expected}"));
         }
     }
     Ok(())

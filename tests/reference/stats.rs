@@ -3,6 +3,7 @@
 use crate::answers::{Answerer, Case};
 use crate::cases;
 use crate::earliest::{few_completions, Stop};
+use crate::judge::Judgement;
 use crate::plan::{broken, Plan};
 use std::collections::BTreeMap;
 
@@ -17,10 +18,10 @@ pub fn write() -> Result<(), String> {
     for line in &lines {
         match Case::parse(line)? {
             Case::Admission(words) => admission(&mut tally, &words),
-            Case::Earliest(list, words) => {
-                let stop = answerer.earliest(&list, &words);
-                earliest(&mut tally, &list, &words, stop);
-            }
+            Case::Judged(list, words) => match answerer.judged(&list, &words) {
+                Ok(judgement) => judged(&mut tally, &list, &words, &judgement),
+                Err(number) => count(&mut tally, format!("j: refused {number}")),
+            },
         }
     }
     eprintln!("{} lines, {bytes} bytes", lines.len());
@@ -52,35 +53,45 @@ fn admission(tally: &mut Tally, words: &[u32]) {
     }
 }
 
-fn earliest(tally: &mut Tally, list: &[u8], words: &[u32], stop: Option<Stop>) {
-    let Some(plan) = Plan::admitted(words) else {
-        return count(tally, "e: not admitted".to_string());
-    };
+fn judged(tally: &mut Tally, list: &[u8], words: &[u32], judgement: &Judgement) {
+    let [_, semi, full, earliest] = judgement.stops;
+    count(tally, format!("j: event {}", judgement.event));
+    if full != earliest {
+        count(tally, "j: full and earliest differ".to_string());
+    }
+    if semi != full {
+        count(tally, "j: semi and full differ".to_string());
+    }
+    let plan = Plan::admitted(words).expect("a plan that is not admitted is refused");
+    stop(tally, list, &plan, earliest);
+}
+
+fn stop(tally: &mut Tally, list: &[u8], plan: &Plan, stop: Stop) {
     let units = plan.units();
     let size = match units {
         0..=10 => "S to 10",
         11..=99 => "S 11 to 99",
         _ => "S from 100",
     };
-    count(tally, format!("e: {size}"));
+    count(tally, format!("j: {size}"));
     if list.len() > units {
-        count(tally, "e: list longer than S".to_string());
+        count(tally, "j: list longer than S".to_string());
     }
-    let Some((y, state)) = stop.flatten() else {
-        return count(tally, format!("e: undecided, {size}"));
+    let Some((y, state)) = stop else {
+        return count(tally, format!("j: undecided, {size}"));
     };
     let verdict = ["undecided", "accepted", "rejected"][usize::from(state)];
     let ends: Vec<usize> = plan.stages.iter().map(|stage| stage.end as usize).collect();
     let stage = 1 + ends.iter().filter(|&&end| end < y).count();
-    count(tally, format!("e: {verdict}, {size}"));
+    count(tally, format!("j: {verdict}, {size}"));
     count(
         tally,
-        format!("e: {verdict} in stage {stage} of {}", ends.len()),
+        format!("j: {verdict} in stage {stage} of {}", ends.len()),
     );
     if ends.contains(&y) {
-        count(tally, format!("e: {verdict} at a stage end, {size}"));
+        count(tally, format!("j: {verdict} at a stage end, {size}"));
     }
     if few_completions(units, y) {
-        count(tally, format!("e: stop also by completions, {size}"));
+        count(tally, format!("j: stop also by completions, {size}"));
     }
 }

@@ -56,14 +56,20 @@ pub fn words(line: &[u8], at: usize, list: &mut [u32]) -> usize {
     n
 }
 
-// Where the class digits that begin at a place end.
-pub fn classes_end(line: &[u8], at: usize) -> usize
-    requires { ⌜ at ≤ length (now line) ⌝ }
-    ensures { λ r. ⌜ (at ≤ r) × (r ≤ length (now (line .entry))) ⌝ }
+// Puts the classes that begin at a place, a digit each, into a list. The result is their number.
+pub fn classes(line: &[u8], at: usize, list: &mut [u8]) -> usize
+    ensures { λ r. ⌜ r ≤ length (now (list .entry)) ⌝ }
 {
+    let mut n = 0;
     let mut i = at;
-    while i < line.len() && digit(line[i]) <= 2 {
+    while i < line.len() && n < list.len() {
+        let d = digit(line[i]);
+        if d > 9 {
+            break;
+        }
+        list[n] = d as u8;
+        n += 1;
         i += 1;
     }
-    i
+    n
 }

@@ -1,6 +1,7 @@
 // Answers each case line of standard input by one line on standard output. A line's first byte is
 // its kind. A new kind needs an arm in `reply` and a function on the line, in its own module.
 mod line;
+mod lists;
 mod plans;
 mod print;
 
@@ -19,7 +20,7 @@ fn reply(line: &[u8]) -> Reply {
     }
     match line[0] {
         b'a' => plans::admission(line),
-        b'e' => plans::stop(line),
+        b'j' => lists::judged(line),
         _ => Reply::BadLine,
     }
 }
