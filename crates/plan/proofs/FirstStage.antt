@@ -1,13 +1,14 @@
--- `completed` and `current` at the first stage of a run of words. Assumes nothing.
+-- `completed`, `current` and `end-below` at the first stage of a run of words. Assumes nothing.
 use Prim.Native.Nat.{ℕ, _+_, _≤_, _<_}
 use mathlib.Core.Path.{_≡_}
 use mathlib.Core.List.{List}
 use lib.ListN.{length}
+use borrow.Author.Tests.{lt-ltb, le-ltb}
 use Rattle.plan.specs.declared.counts.Counts.{Counts}
 use Rattle.plan.specs.declared.stage.Answer.{Answer}
 use Rattle.plan.specs.declared.stage.Answer.the-variants.{GoOn}
 use Rattle.plan.specs.declared.ways.StageWay.{StageWay}
-use Rattle.plan.specs.Plan.{stages, first}
+use Rattle.plan.specs.Plan.{stages, first, end-below}
 use Rattle.plan.specs.Counts.{units}
 use Rattle.plan.specs.Stopping.{completed, at-filled, or-else, at-stage, current}
 use Rattle.plan.proofs.Ends.{current-here, current-later}
@@ -33,3 +34,16 @@ module _ (w : List ℕ) (way : StageWay) (before : ℕ) (c : Counts) where
   pub current-rest : 5 ≤ length w → before + first w .size < units c →
       current (at-stage way) before (stages w) c ≡ current (at-stage way) (before + first w .size) (stages (after w)) c
   current-rest h l = rw (stages-more w h) (current-later (at-stage way) before (first w) (stages (after w)) c l)
+
+module _ (w : List ℕ) (before y : ℕ) where
+  pub end-none : length w < 5 → end-below before (stages w) y ≡ before
+  unfolding end-below
+  end-none h = rw (stages-none w h)
+
+  pub end-first : 5 ≤ length w → y ≤ before + first w .size → end-below before (stages w) y ≡ before
+  unfolding end-below
+  end-first h l = rw (stages-more w h, le-ltb (before + first w .size) y l)
+
+  pub end-rest : 5 ≤ length w → before + first w .size < y → end-below before (stages w) y ≡ end-below (before + first w .size) (stages (after w)) y
+  unfolding end-below
+  end-rest h l = rw (stages-more w h, lt-ltb (before + first w .size) y l)

@@ -16,6 +16,7 @@ mod Verdicts
 mod FirstPlace
 mod Best
 mod CountLaws
+mod StageEnds
 mod Uncurtailed
 mod StageWays
 mod Compared

@@ -17,6 +17,7 @@ use Rattle.plan.proofs.Shape.{shape as shape-of}
 use Rattle.plan.proofs.Verdicts as verdicts
 use Rattle.plan.proofs.Best as best
 use Rattle.plan.proofs.CountLaws as laws
+use Rattle.plan.proofs.StageEnds as ends
 use Rattle.plan.proofs.Uncurtailed.{uncurtailed-stop}
 use Rattle.plan.proofs.StageWays.{sound}
 use Rattle.plan.proofs.Compared.{staged-later, same-rejection}
@@ -47,6 +48,8 @@ promise w e =
       one-stage = one-stage-of (stages w) l;
       past = laws.past (stages w);
       within-stage = laws.within-stage (stages w);
+      by-ends = ends.by-ends (stages w);
+      end-below-is = ends.end-below-is (stages w);
       rejects = laws.rejects (stages w) l;
     }
 

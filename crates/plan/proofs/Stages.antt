@@ -44,6 +44,10 @@ stages-none (a ∷ b ∷ []) h = refl
 stages-none (a ∷ b ∷ c ∷ []) h = refl
 stages-none (a ∷ b ∷ c ∷ d ∷ []) h = refl
 
+pub total-none : (w : List ℕ) → length w < 5 → total (stages w) ≡ 0
+unfolding total
+total-none w h = ap total (stages-none w h)
+
 pub total-more : (w : List ℕ) → 5 ≤ length w → total (stages w) ≡ first w .size + total (stages (after w))
 unfolding total
 total-more w h = ap total (stages-more w h)

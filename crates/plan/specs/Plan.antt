@@ -2,7 +2,7 @@
 use Prim.Native.Nat.{ℕ, _+_, _*_}
 use mathlib.Core.Path.{_≡_}
 use mathlib.Core.Logic.{_⊎_}
-use mathlib.Core.Bool.{Bool, true, _&&_}
+use mathlib.Core.Bool.{Bool, true, cond, _&&_}
 use mathlib.Core.List.{List, [], _∷_}
 use lib.ListN.{length, getD}
 use lib.Dec.{leb, ltb, eqb}
@@ -37,6 +37,11 @@ total (s ∷ rest) = s .size + total rest
 unfoldable pub End : ℕ → List Stage → ℕ → Type 0
 End before [] e = ⊥
 End before (s ∷ rest) e = (e ≡ before + s .size) ⊎ End (before + s .size) rest e
+
+-- the last of them below y, or `before` where there is none
+unfoldable pub end-below : ℕ → List Stage → ℕ → ℕ
+end-below before [] y = before
+end-below before (s ∷ rest) y = cond (ltb (before + s .size) y) (end-below (before + s .size) rest y) before
 
 -- ---- the rules. A row of numbers is a function of the stage
 

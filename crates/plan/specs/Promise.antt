@@ -13,7 +13,7 @@ use Rattle.plan.specs.declared.stage.Answer.the-variants.{GoOn, Accept, 
 use Rattle.plan.specs.declared.ways.StageWay.{StageWay}
 use Rattle.plan.specs.declared.ways.StageWay.the-variants.{Uncurtailed, Semi, Full}
 use Rattle.plan.specs.declared.ways.Way.{Way}
-use Rattle.plan.specs.Plan.{Stage, stages, first, total, End, last-reject1, last-reject2}
+use Rattle.plan.specs.Plan.{Stage, stages, first, total, End, end-below, last-reject1, last-reject2}
 use Rattle.plan.specs.Counts.{units, nongood, nonbad, no-units, add-units, counts}
 use Rattle.plan.specs.Stopping.{accepts, full-at, staged, earliest, answer}
 use Rattle.plan.specs.Sample.{Classes, Completion, All-have, Rule, Stops, Faithful}
@@ -97,6 +97,11 @@ pub record Promise (p : List Stage) : Type 0 where
   pub past : (way : Way) (c : Counts) → total p < units c → answer way p c ≡ GoOn
   -- within a stage, what comes before an undecided history is undecided
   pub within-stage : (h : List ℕ) (z : ℕ) → z ≤ length h → Same-stage p z (length h) → earliest p (counts h) ≡ GoOn → earliest p (counts (take z h)) ≡ GoOn
+  -- so a history is undecided before its last unit if it is so there and at each stage's end
+  pub by-ends : (h : List ℕ) → ((e : ℕ) → End 0 p e → e < length h → earliest p (counts (take e h)) ≡ GoOn)
+      → earliest p (counts (take (length h - 1) h)) ≡ GoOn → (y : ℕ) → y < length h → earliest p (counts (take y h)) ≡ GoOn
+  -- the last stage end below y
+  pub end-below-is : (y : ℕ) → 1 ≤ y → (end-below 0 p y < y) × ((e : ℕ) → End 0 p e → e < y → e ≤ end-below 0 p y)
   -- as many nongood or bad units as the last rejection number are rejected
   pub rejects : (c : Counts) → units c ≤ total p → (last-reject1 p ≤ nongood c) ⊎ (last-reject2 p ≤ c .bad) → earliest p c ≡ Reject
 

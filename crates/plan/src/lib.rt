@@ -4,6 +4,7 @@
 mod admission;
 mod completion;
 mod counts;
+mod size;
 mod stage;
 mod ways;
 
@@ -12,6 +13,8 @@ pub use completion::earliest;
 pub use counts::Counts;
 pub use counts::add_units;
 pub use counts::no_units;
+pub use size::end_below;
+pub use size::sample_size;
 pub use stage::Answer;
 pub use stage::state;
 pub use ways::StageWay;

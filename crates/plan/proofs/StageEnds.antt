@@ -1,0 +1,108 @@
+-- The ends of a plan's stages: the last one below a number of units, and what they say of a history.
+-- Assumes nothing.
+use Prim.Native.Nat.{ℕ, _+_, _-_, _≤_, _<_}
+use mathlib.Core.Path.{_≡_, refl}
+use mathlib.Core.Logic.{_⊎_, inl, inr, ⊎-elim}
+use mathlib.Core.Bool.{Bool, true, false, cond}
+use mathlib.Core.List.{List, [], _∷_}
+use native.Mathlib.Omega.{arith}
+use native.Mathlib.Decide.{decLt}
+use lib.ListN.{length, take}
+use lib.Seq.{length-take-le, take-take}
+use lib.Dec.{ltb}
+use borrow.Author.Tests.{lt-ltb, le-ltb}
+use Rattle.plan.specs.declared.stage.Answer.the-variants.{GoOn}
+use Rattle.plan.specs.Plan.{Stage, End, end-below}
+use Rattle.plan.specs.Counts.{counts}
+use Rattle.plan.specs.Stopping.{earliest}
+use Rattle.plan.specs.Promise.{Same-stage}
+use Rattle.plan.proofs.CountLaws.{within-stage}
+
+-- ---- the last end below y
+
+-- no end comes before the stages
+later : (before : ℕ) (p : List Stage) (e : ℕ) → End before p e → before ≤ e
+unfolding End
+later before (s ∷ rest) e (inl h) = omega arith
+later before (s ∷ rest) e (inr m) = omega (arith, later (before + s .size) rest e m)
+
+not-before : (before : ℕ) (p : List Stage) (y : ℕ) → before ≤ end-below before p y
+unfolding end-below
+not-before before [] y = omega arith
+not-before before (s ∷ rest) y = go (ltb (before + s .size) y) (not-before (before + s .size) rest y)
+  where
+    go : (b : Bool) → before + s .size ≤ end-below (before + s .size) rest y → before ≤ cond b (end-below (before + s .size) rest y) before
+    go true l = omega arith
+    go false l = omega arith
+
+-- y lies above the number x, and every end below y is at most x
+record Last (before : ℕ) (p : List Stage) (y x : ℕ) : Type 0 where
+  below : x < y
+  last : (e : ℕ) → End before p e → e < y → e ≤ x
+
+last-end : (before : ℕ) (p : List Stage) (y : ℕ) → before < y → Last before p y (end-below before p y)
+unfolding End end-below
+last-end before [] y l = record { below = l; last = λ e m k. absurd m }
+last-end before (s ∷ rest) y l = go (decLt (before + s .size) y) (last-end (before + s .size) rest y)
+  where
+    go : Dec (before + s .size < y) → (before + s .size < y → Last (before + s .size) rest y (end-below (before + s .size) rest y))
+        → Last before (s ∷ rest) y (cond (ltb (before + s .size) y) (end-below (before + s .size) rest y) before)
+    go (yes k) later-one =
+        let t = later-one k in
+        rw (lt-ltb (before + s .size) y k)
+        (record { below = t .below; last = λ e m q. ⊎-elim (λ h. omega (arith, not-before (before + s .size) rest y)) (λ n. t .last e n q) m })
+    go (no k) later-one =
+        rw (le-ltb (before + s .size) y (omega arith))
+        (record { below = l; last = λ e m q. absurd (⊎-elim (λ h. omega arith) (λ n. omega (arith, later (before + s .size) rest e n)) m) })
+
+pub end-below-is : (p : List Stage) (y : ℕ) → 1 ≤ y → (end-below 0 p y < y) × ((e : ℕ) → End 0 p e → e < y → e ≤ end-below 0 p y)
+end-below-is p y l = let t = last-end 0 p y (omega arith) in (t .below, t .last)
+
+-- ---- the first end from y on
+
+record Next (before : ℕ) (p : List Stage) (y : ℕ) : Type 0 where
+  end : ℕ
+  is : End before p end
+  from : y ≤ end
+  first : (e : ℕ) → End before p e → y ≤ e → end ≤ e
+
+next-end : (before : ℕ) (p : List Stage) (y : ℕ) → ((e : ℕ) → End before p e → e < y) ⊎ Next before p y
+unfolding End
+next-end before [] y = inl (λ e m. absurd m)
+next-end before (s ∷ rest) y = go (decLt (before + s .size) y) (next-end (before + s .size) rest y)
+  where
+    go : Dec (before + s .size < y) → ((e : ℕ) → End (before + s .size) rest e → e < y) ⊎ Next (before + s .size) rest y
+        → ((e : ℕ) → End before (s ∷ rest) e → e < y) ⊎ Next before (s ∷ rest) y
+    go (no k) t = inr (record {
+      end = before + s .size;
+      is = inl refl;
+      from = omega arith;
+      first = λ e m l. ⊎-elim (λ h. omega arith) (λ n. later (before + s .size) rest e n) m;
+    })
+    go (yes k) (inl f) = inl (λ e m. ⊎-elim (λ h. omega arith) (λ n. f e n) m)
+    go (yes k) (inr t) = inr (record {
+      end = t .end;
+      is = inr (t .is);
+      from = t .from;
+      first = λ e m l. ⊎-elim (λ h. absurd (omega arith)) (λ n. t .first e n l) m;
+    })
+
+-- ---- undecided at the ends, and before the last unit
+
+module _ (p : List Stage) (h : List ℕ) where
+  -- up to n units of the history, with no end from y on and before n
+  undecided-to : (y n : ℕ) → y ≤ n → n ≤ length h → Same-stage p y n → earliest p (counts (take n h)) ≡ GoOn → earliest p (counts (take y h)) ≡ GoOn
+  undecided-to y n l w same e =
+      let u : length (take n h) ≡ n = length-take-le n h w in
+      rw (take-take y n h l) at (within-stage p (take n h) y (omega arith) (λ z m k. omega (arith, same z m k)) e)
+
+  pub by-ends : ((e : ℕ) → End 0 p e → e < length h → earliest p (counts (take e h)) ≡ GoOn)
+      → earliest p (counts (take (length h - 1) h)) ≡ GoOn → (y : ℕ) → y < length h → earliest p (counts (take y h)) ≡ GoOn
+  by-ends ends last y l = go (next-end 0 p y)
+    where
+      go : ((e : ℕ) → End 0 p e → e < y) ⊎ Next 0 p y → earliest p (counts (take y h)) ≡ GoOn
+      go (inl f) = undecided-to y (length h - 1) (omega arith) (omega arith) (λ e m k. absurd (omega (arith, f e m))) last
+      go (inr t) = elim (decLt (t .end) (length h)) [
+        | yes k ↦ undecided-to y (t .end) (t .from) (omega arith) (t .first) (ends (t .end) (t .is) k)
+        | no k ↦ undecided-to y (length h - 1) (omega arith) (omega arith) (λ e m q. omega (arith, t .first e m q)) last
+      ]
