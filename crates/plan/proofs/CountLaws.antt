@@ -1,8 +1,9 @@
--- Laws of the ways as rules on counts: within a stage, what comes before an undecided history is undecided; as many nongood or bad
--- units as the last rejection number are rejected; after S units no way stops.
+-- Laws of the ways as rules on counts: within a stage, what comes before an undecided history is undecided; as many units, none of
+-- them better, are answered no better; as many nongood or bad units as the last rejection number are rejected; after S units no
+-- way stops.
 -- Assumes nothing.
 use Prim.Native.Nat.{ℕ, _+_, _-_, _≤_, _<_}
-use mathlib.Core.Path.{_≡_, _∙_}
+use mathlib.Core.Path.{_≡_, refl, _∙_}
 use mathlib.Core.Logic.{_⊎_, inl, inr, ⊎-elim}
 use mathlib.Core.List.{List, [], _∷_}
 use native.Mathlib.Omega.{arith}
@@ -15,8 +16,8 @@ use Rattle.plan.specs.declared.ways.Way.the-variants.{Staged, Earliest}
 use Rattle.plan.specs.Plan.{Stage, total, last-reject1, last-reject2}
 use Rattle.plan.specs.Counts.{units, nongood, add-units, counts}
 use Rattle.plan.specs.Stopping.{at-filled, completed, at-stage, staged, earliest, answer}
-use Rattle.plan.specs.Promise.{Same-stage}
-use Rattle.plan.proofs.Order.{rank, at-end-mono, undecided, undecided-ranks, rejected}
+use Rattle.plan.specs.Promise.{Same-stage, rank, Worse}
+use Rattle.plan.proofs.Order.{at-end-mono, Better, undecided, undecided-ranks, settled-mono, rejected}
 use Rattle.plan.proofs.Units.{add-good, add-bad, More, added, more-taken, units-counts, units-taken}
 use Rattle.plan.proofs.Ends.{Each, each-end, each-both, first-mono, first-same, first-on, first-rejects, current-past, end-past, end-due, end-case}
 use Rattle.plan.proofs.Limits.{Limits}
@@ -56,6 +57,29 @@ within-stage p h z l same =
     let n = units-taken h z l in
     undecided-sooner (length h - z) (counts (take z h)) (counts h) (rw (take-all (length h) h (omega arith)) at (more-taken h z (length h) l (omega arith))) p
     (each-end (λ end. units (counts (take z h)) ≤ end → units (counts h) ≤ end) 0 p (λ e m k. omega (arith, same e m (omega arith), units-counts h)))
+
+-- ---- as many units, none of them better
+
+module _ (c d : Counts) (w : Worse c d) where
+  -- where every further unit is of one class, bad or good
+  worse-filled : (class : ℕ) → (class ≡ 0) ⊎ (class ≡ 2) → (end : ℕ) (s : Stage) → Unit {0} → rank (at-filled class d end s) ≤ rank (at-filled class c end s)
+  worse-filled class k end s t =
+      end-case class c end s (λ a. rank (at-filled class d end s) ≤ rank a)
+      (λ l. rw (end-past class d end s (omega (arith, w .units))) (omega arith))
+      (λ l. rw (end-due class d end s (omega (arith, w .units)))
+      (at-end-mono s (add-units class (end - units c) c) (add-units class (end - units d) d) (better k)))
+    where
+      better : (class ≡ 0) ⊎ (class ≡ 2) → Better (add-units class (end - units c) c) (add-units class (end - units d) d)
+      better (inl e) = rw (e, add-good, add-good) (omega arith)
+      better (inr e) = rw (e, add-bad, add-bad) (omega arith)
+
+  worse-completed : (class : ℕ) → (class ≡ 0) ⊎ (class ≡ 2) → (p : List Stage) → rank (completed class 0 p d) ≤ rank (completed class 0 p c)
+  worse-completed class k p = first-mono (λ end s. Unit {0}) (at-filled class d) (at-filled class c) (worse-filled class k) 0 p (each-end (λ end. Unit {0}) 0 p (λ e m. tt))
+
+pub no-better : (p : List Stage) (c d : Counts) → Worse c d → rank (earliest p d) ≤ rank (earliest p c)
+unfolding earliest
+no-better p c d w =
+    settled-mono (completed 2 0 p d) (completed 0 0 p d) (completed 2 0 p c) (completed 0 0 p c) (worse-completed c d w 2 (inr refl) p) (worse-completed c d w 0 (inl refl) p)
 
 -- ---- as many units as the last rejection number
 

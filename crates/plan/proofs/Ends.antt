@@ -14,7 +14,8 @@ use Rattle.plan.specs.declared.stage.Answer.the-variants.{GoOn, Accept, 
 use Rattle.plan.specs.Plan.{Stage, total, End}
 use Rattle.plan.specs.Counts.{units, add-units}
 use Rattle.plan.specs.Stopping.{or-else, at-end, first-answer, at-filled, current}
-use Rattle.plan.proofs.Order.{rank, or-else-mono}
+use Rattle.plan.specs.Promise.{rank}
+use Rattle.plan.proofs.Order.{or-else-mono}
 
 -- P holds at the end of each stage
 abbrev pub Each : (ℕ → Stage → Type 0) → ℕ → List Stage → Type 0

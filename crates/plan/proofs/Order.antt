@@ -12,12 +12,8 @@ use Rattle.plan.specs.declared.stage.Answer.{Answer}
 use Rattle.plan.specs.declared.stage.Answer.the-variants.{GoOn, Accept, Reject}
 use Rattle.plan.specs.Plan.{Stage}
 use Rattle.plan.specs.Counts.{nongood}
-use Rattle.plan.specs.Stopping.{or-else, rejects, accepts, at-end, settled}
-
-abbrev pub rank : Answer → ℕ
-rank Reject = 0
-rank GoOn = 1
-rank Accept = 2
+use Rattle.plan.specs.Stopping.{or-else, rejects, accepts, at-end, only-reject, settled}
+use Rattle.plan.specs.Promise.{rank}
 
 pub top : (a : Answer) → 2 ≤ rank a → a ≡ Accept
 top Accept h = refl
@@ -81,6 +77,24 @@ rejects-best Reject Accept e = cc
 rejects-best GoOn Reject e = refl
 rejects-best GoOn GoOn e = cc
 rejects-best GoOn Accept e = cc
+
+reject-mono : (best better : Answer) → rank best ≤ rank better → rank (only-reject best) ≤ rank (only-reject better)
+reject-mono Reject better h = omega arith
+reject-mono GoOn Reject h = absurd (omega arith)
+reject-mono GoOn GoOn h = omega arith
+reject-mono GoOn Accept h = omega arith
+reject-mono Accept Reject h = absurd (omega arith)
+reject-mono Accept GoOn h = absurd (omega arith)
+reject-mono Accept Accept h = omega arith
+
+pub settled-mono : (worst best worst′ best′ : Answer) → rank worst ≤ rank worst′ → rank best ≤ rank best′ → rank (settled worst best) ≤ rank (settled worst′ best′)
+settled-mono worst best Accept best′ h k = at-most-two (settled worst best)
+settled-mono Accept best Reject best′ h k = absurd (omega arith)
+settled-mono Accept best GoOn best′ h k = absurd (omega arith)
+settled-mono Reject best Reject best′ h k = reject-mono best best′ k
+settled-mono Reject best GoOn best′ h k = reject-mono best best′ k
+settled-mono GoOn best Reject best′ h k = absurd (omega arith)
+settled-mono GoOn best GoOn best′ h k = reject-mono best best′ k
 
 -- where both begin with one answer and are undecided, it went on
 pub settled-past : (t a b : Answer) → settled (or-else t a) (or-else t b) ≡ GoOn → (t ≡ GoOn) × (settled a b ≡ GoOn)

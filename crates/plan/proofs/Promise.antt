@@ -50,6 +50,7 @@ promise w e =
       within-stage = laws.within-stage (stages w);
       by-ends = ends.by-ends (stages w);
       end-below-is = ends.end-below-is (stages w);
+      no-better = laws.no-better (stages w);
       rejects = laws.rejects (stages w) l;
     }
 

@@ -15,8 +15,8 @@ use Rattle.plan.specs.Plan.{Stage, total}
 use Rattle.plan.specs.Counts.{units, no-units, add-units, counts}
 use Rattle.plan.specs.Stopping.{at-filled, completed, earliest}
 use Rattle.plan.specs.Sample.{Classes, verdict, Completion, All-have}
-use Rattle.plan.specs.Promise.{History}
-use Rattle.plan.proofs.Order.{rank, top, bottom, accepts-worst, rejects-best, undecided, not-accepted, not-rejected}
+use Rattle.plan.specs.Promise.{History, rank}
+use Rattle.plan.proofs.Order.{top, bottom, accepts-worst, rejects-best, undecided, not-accepted, not-rejected}
 use Rattle.plan.proofs.Ends.{Each, first-mono, first-same, first-on, end-case}
 use Rattle.plan.proofs.Limits.{Sound, Limits, decides}
 use Rattle.plan.proofs.Prefix.{Ended, ended, worst, best, reached}

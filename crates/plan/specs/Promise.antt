@@ -45,6 +45,18 @@ Best p h =
 abbrev pub Same-stage : List Stage → ℕ → ℕ → Type 0
 Same-stage p z y = (e : ℕ) → End 0 p e → z ≤ e → y ≤ e
 
+-- answers, from the worst to the best
+abbrev pub rank : Answer → ℕ
+rank Reject = 0
+rank GoOn = 1
+rank Accept = 2
+
+-- d has as many units as c, and no fewer nongood or bad ones
+pub record Worse (c d : Counts) : Type 0 where
+  pub units : units d ≡ units c
+  pub nongood : nongood c ≤ nongood d
+  pub bad : c .bad ≤ d .bad
+
 -- what is known of an admitted run of words
 pub record Shape (w : List ℕ) : Type 0 where
   pub whole : length w ≡ 5 * length (stages w)
@@ -102,6 +114,8 @@ pub record Promise (p : List Stage) : Type 0 where
       → earliest p (counts (take (length h - 1) h)) ≡ GoOn → (y : ℕ) → y < length h → earliest p (counts (take y h)) ≡ GoOn
   -- the last stage end below y
   pub end-below-is : (y : ℕ) → 1 ≤ y → (end-below 0 p y < y) × ((e : ℕ) → End 0 p e → e < y → e ≤ end-below 0 p y)
+  -- as many units, none of them better, are answered no better
+  pub no-better : (c d : Counts) → Worse c d → rank (earliest p d) ≤ rank (earliest p c)
   -- as many nongood or bad units as the last rejection number are rejected
   pub rejects : (c : Counts) → units c ≤ total p → (last-reject1 p ≤ nongood c) ⊎ (last-reject2 p ≤ c .bad) → earliest p c ≡ Reject
 
