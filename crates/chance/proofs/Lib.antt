@@ -1,0 +1,14 @@
+-- What the proofs of several functions use, and the laws for whoever stands on this crate (Promise).
+mod Rounding
+mod Sums
+mod Enclosure
+mod Histories
+mod Law
+mod Quotient
+mod States
+mod Boundaries
+mod InPlace
+mod Induction
+mod Parts
+mod Replies
+pub mod Promise

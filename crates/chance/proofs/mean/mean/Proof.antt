@@ -1,0 +1,55 @@
+-- `chance::mean` meets its contract: no product or sum is too large, and no mean exceeds its values. Assumes nothing.
+use borrow.Author.Needs.{needs}
+use native.Mathlib.Omega.{arith}
+use Rattle.chance.specs.Bounds.{down, up}
+use Rattle.chance.proofs.States.{products, mean-at-most}
+use Rattle.chance.proofs.mean.mean.Statement.{statement}
+use Rattle.chance.proofs.mean.mean.Tie as tie
+
+mul-sum : tie.Need-mul-sum
+mul-sum c = let a = c .before .before .before .args in omega (arith, c .before .before .before .pre .0, products (a .w) (a .good) (a .marginal) (a .bad) (c .before .before .before .pre .1))
+
+mul-sum-2 : tie.Need-mul-sum-2
+mul-sum-2 c = let s = c .before .before .before .before in let a = s .args in omega (arith, s .pre .0, products (a .w) (a .good) (a .marginal) (a .bad) (s .pre .1))
+
+add-sum : tie.Need-add-sum
+add-sum c = let s = c .before .before .before .before in let a = s .args in omega (arith, s .pre .0, products (a .w) (a .good) (a .marginal) (a .bad) (s .pre .1))
+
+mul-sum-3 : tie.Need-mul-sum-3
+mul-sum-3 c = let s = c .before .before .before .before .before in let a = s .args in omega (arith, s .pre .0, products (a .w) (a .good) (a .marginal) (a .bad) (s .pre .1))
+
+add-sum-2 : tie.Need-add-sum-2
+add-sum-2 c = let s = c .before .before .before .before .before in let a = s .args in omega (arith, s .pre .0, products (a .w) (a .good) (a .marginal) (a .bad) (s .pre .1))
+
+add-result : tie.Need-add-result
+add-result c = let s = c .before .before .before .before .before .before in let a = s .args in omega (arith, s .pre .0, products (a .w) (a .good) (a .marginal) (a .bad) (s .pre .1))
+
+returns : tie.Need-returns
+returns c =
+    let s = c .before .before .before .before .before .before in
+    let a = s .args in
+    (rw (c .if1 .taken), mean-at-most up (a .w) (a .good) (a .marginal) (a .bad) (s .pre .0) (s .pre .1))
+
+returns-2 : tie.Need-returns-2
+returns-2 c =
+    let s = c .before .before .before .before .before .before in
+    let a = s .args in
+    (rw (c .if1 .left), mean-at-most down (a .w) (a .good) (a .marginal) (a .bad) (s .pre .0) (s .pre .1))
+
+pub mean-spec : {M : Type 1} → statement M
+mean-spec =
+    tie.close
+    (tie.spec
+    (λ c. search needs)
+    (λ c. search needs)
+    mul-sum
+    mul-sum-2
+    add-sum
+    mul-sum-3
+    add-sum-2
+    (λ c. search needs)
+    add-result
+    (λ c. search needs)
+    returns
+    (λ c. search needs)
+    returns-2)

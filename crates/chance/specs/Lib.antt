@@ -1,0 +1,7 @@
+pub mod Bounds
+pub mod Chance
+pub mod Fraction
+pub mod Reply
+pub mod Layer
+pub mod Decision
+pub mod Laws

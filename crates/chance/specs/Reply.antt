@@ -1,0 +1,64 @@
+-- What `chance` and `chart` reply, and what they leave of the scratch (01: the bench). Document 01, "Refused" and "Chance of
+-- acceptance".
+use Prim.Native.Nat.{ℕ, _*_}
+use mathlib.Core.Path.{_≡_}
+use mathlib.Core.Bool.{not, _||_}
+use mathlib.Core.List.{List, [], _∷_}
+use lib.ListN.{length, drop}
+use lib.Dec.{ltb, eqb}
+use Rattle.plan.specs.Plan.{Stage, stages, last-reject1, last-reject2, admitted}
+use Rattle.plan.specs.Refusal.{Refusal, first-refusal}
+use Rattle.chance.specs.declared.mean.Weights.{Weights}
+use Rattle.chance.specs.declared.answers.Bounds.{Bounds}
+use Rattle.chance.specs.declared.answers.Bounded.{Bounded}
+use Rattle.chance.specs.declared.answers.Bounded.the-variants as Bounded
+use Rattle.chance.specs.declared.answers.Chart.{Chart}
+use Rattle.chance.specs.declared.answers.ChartAnswer.{ChartAnswer}
+use Rattle.chance.specs.declared.answers.ChartAnswer.the-variants as ChartAnswer
+use Rattle.chance.specs.Bounds.{weight-sum}
+use Rattle.chance.specs.Chance.{low, high}
+use Rattle.chance.specs.Fraction.{quotient, Exactly}
+
+abbrev pub weights-of : ℕ → ℕ → ℕ → Weights
+weights-of w0 w1 w2 = record { good = w0; marginal = w1; bad = w2 }
+
+-- the words of scratch that a plan needs: 2 × last r1 × last r2
+abbrev pub needed : List ℕ → ℕ
+needed plan = 2 * (last-reject1 (stages plan) * last-reject2 (stages plan))
+
+-- the rows of the table "Refused", with n words of scratch: the plan is not admitted; the weights add to 0 or above
+-- 1,000,000; the scratch is too small
+abbrev pub refusals : List ℕ → Weights → ℕ → List Refusal
+refusals plan w n =
+    record { number = 2; when = not (admitted plan) }
+    ∷ record { number = 13; when = eqb (weight-sum w) 0 || ltb 1000000 (weight-sum w) }
+    ∷ record { number = 14; when = ltb n (needed plan) }
+    ∷ []
+
+abbrev pub bounds-of : List Stage → Weights → Bounds
+bounds-of p w = record { low = low p w; high = high p w }
+
+-- the bounds divided by 2^40, as floats
+abbrev pub chart-of : List Stage → Weights → Chart
+chart-of p w = record { low = quotient (low p w) 40; high = quotient (high p w) 40 }
+
+-- `chance`: the number of the first row that applies, else low and high
+unfoldable pub chance-reply : List ℕ → Weights → ℕ → Bounded
+chance-reply plan w n = first-refusal Bounded.Refused (refusals plan w n) (Bounded.Pair (bounds-of (stages plan) w))
+
+-- `chart`: refused alike, else low and high as floats
+unfoldable pub chart-reply : List ℕ → Weights → ℕ → ChartAnswer
+chart-reply plan w n = first-refusal ChartAnswer.Refused (refusals plan w n) (ChartAnswer.Pair (chart-of (stages plan) w))
+
+-- the floats of a pair are low / 2^40 and high / 2^40 exactly
+abbrev pub Exact-chart : List ℕ → Weights → ChartAnswer → Type 0
+Exact-chart plan w (ChartAnswer.Pair c) = Exactly (c .low) (low (stages plan) w) 40 × Exactly (c .high) (high (stages plan) w) 40
+Exact-chart plan w (ChartAnswer.Refused number) = Unit {0}
+
+-- how many words of the scratch a call may change: none where it is refused
+unfoldable pub written : List ℕ → Weights → ℕ → ℕ
+written plan w n = first-refusal (λ number. 0) (refusals plan w n) (needed plan)
+
+-- all other words of the scratch are as before
+abbrev pub Keeps : List ℕ → Weights → List ℕ → List ℕ → Type 0
+Keeps plan w before after = drop (written plan w (length before)) after ≡ drop (written plan w (length before)) before

@@ -1,0 +1,23 @@
+// What the two calls answer. Document 01, "Chance of acceptance".
+
+// Low and high, in units of 2^-40.
+pub struct Bounds {
+    pub low: u64,
+    pub high: u64,
+}
+
+pub enum Bounded {
+    Pair(Bounds),
+    Refused(u32),
+}
+
+// Low and high as floats.
+pub struct Chart {
+    pub low: f64,
+    pub high: f64,
+}
+
+pub enum ChartAnswer {
+    Pair(Chart),
+    Refused(u32),
+}

@@ -1,0 +1,17 @@
+// Bounds on the chance of acceptance, as whole numbers of 2^-40 and as floats. Document 01, "Chance of
+// acceptance". They come by backward induction over layers: a layer has the value of each state that
+// so many units can reach, and stands in a run of words.
+mod acceptance;
+mod answers;
+mod backward;
+mod charting;
+mod decision;
+mod layer;
+mod mean;
+
+pub use acceptance::chance;
+pub use answers::Bounded;
+pub use answers::Bounds;
+pub use answers::Chart;
+pub use answers::ChartAnswer;
+pub use charting::chart;
