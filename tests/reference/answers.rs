@@ -4,7 +4,12 @@
 //! - `j`, a dot with the classes of a list as digits, and plan words: stop and
 //!   state of uncurtailed, semi, full and earliest and the event, or `no 2`, or
 //!   `no 7` for a class above 2 anywhere (01 "Lists, events, estimates").
+//! - `c`, three weights, the words of scratch and plan words: low and high in
+//!   units of 2^-40, or `no 2`, `no 13`, `no 14` (01 "Chance of acceptance").
+//! - `f` and the same fields: the bit patterns of the chart's two floats, or the
+//!   same refusals.
 
+use crate::chance::{self, Bounds, Weights};
 use crate::earliest::Table;
 use crate::judge::{judge, Judgement};
 use crate::plan::Plan;
@@ -12,6 +17,15 @@ use crate::plan::Plan;
 pub enum Case {
     Admission(Vec<u32>),
     Judged(Vec<u8>, Vec<u32>),
+    Chance(Call),
+    Chart(Call),
+}
+
+/// What a chance and a chart take.
+pub struct Call {
+    pub weights: Weights,
+    pub scratch: u32,
+    pub words: Vec<u32>,
 }
 
 impl Case {
@@ -22,6 +36,8 @@ impl Case {
             ["j", list, ref words @ ..] => classes(list)
                 .zip(numbers(words))
                 .map(|(list, words)| Case::Judged(list, words)),
+            ["c", ref call @ ..] => taken(call).map(Case::Chance),
+            ["f", ref call @ ..] => taken(call).map(Case::Chart),
             _ => None,
         };
         case.ok_or_else(|| format!("not a case: {line}"))
@@ -35,6 +51,17 @@ fn numbers(fields: &[&str]) -> Option<Vec<u32>> {
 fn number(field: &str) -> Option<u32> {
     let digits = field.bytes().all(|byte| byte.is_ascii_digit());
     field.parse().ok().filter(|_| digits)
+}
+
+fn taken(fields: &[&str]) -> Option<Call> {
+    let [w0, w1, w2, scratch, ref words @ ..] = numbers(fields)?[..] else {
+        return None;
+    };
+    Some(Call {
+        weights: [w0, w1, w2],
+        scratch,
+        words: words.to_vec(),
+    })
 }
 
 /// The classes after the dot.
@@ -63,6 +90,8 @@ impl Answerer {
                 .map(|_| "admitted".to_string())
                 .ok_or(2),
             Case::Judged(list, words) => self.judged(&list, &words).map(|it| judged_text(&it)),
+            Case::Chance(call) => self.bounds(&call).map(pair_text),
+            Case::Chart(call) => self.bounds(&call).map(chance::chart).map(pair_text),
         };
         Ok(reply.unwrap_or_else(|number| format!("no {number}")))
     }
@@ -76,6 +105,17 @@ impl Answerer {
         Ok(judge(plan, table, list))
     }
 
+    pub fn bounds(&mut self, call: &Call) -> Reply<Bounds> {
+        let (plan, table) = self.plan(&call.words).ok_or(2_u32)?;
+        if !(1..=1_000_000).contains(&chance::sum(call.weights)) {
+            return Err(13);
+        }
+        if u64::from(call.scratch) < chance::needed(plan) {
+            return Err(14);
+        }
+        Ok(chance::bounds(plan, table, call.weights))
+    }
+
     fn plan(&mut self, words: &[u32]) -> Option<(&Plan, &Table)> {
         if self.kept.as_ref().is_none_or(|(kept, ..)| kept != words) {
             let plan = Plan::admitted(words)?;
@@ -84,6 +124,10 @@ impl Answerer {
         }
         self.kept.as_ref().map(|(_, plan, table)| (plan, table))
     }
+}
+
+fn pair_text([low, high]: [u64; 2]) -> String {
+    format!("{low} {high}")
 }
 
 fn judged_text(judgement: &Judgement) -> String {

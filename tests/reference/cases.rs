@@ -1,9 +1,12 @@
-//! The seeded cases: hand-written edges, then random plans with their lists.
+//! The seeded cases: hand-written edges, then random plans with their lists and
+//! chances.
 
+use crate::chance::{needed, Weights};
 use crate::draw;
 use crate::earliest::{by_table, Table};
 use crate::edges::{self, A, B, KNOWN, NEAR_A, NEAR_B, ONE, SEVEN, THREE, TWO};
 use crate::plan::Plan;
+use crate::published;
 use crate::random::Random;
 use std::collections::HashSet;
 
@@ -21,6 +24,10 @@ pub fn all() -> Vec<String> {
     cases.refused_classes();
     cases.random_plans();
     cases.random_words();
+    cases.known_chances();
+    cases.chances_at_limits();
+    cases.refused_chances();
+    cases.random_chances();
     let mut seen = HashSet::new();
     cases.lines.retain(|line| seen.insert(line.clone()));
     cases.lines
@@ -44,6 +51,21 @@ impl Cases {
     /// A list written as in a case line.
     fn listed(&mut self, list: &str, words: &[u32]) {
         self.lines.push(format!("j {list}{}", fields(words)));
+    }
+
+    fn chance(&mut self, weights: Weights, scratch: u32, words: &[u32]) {
+        let taken = [&weights[..], &[scratch], words].concat();
+        self.lines.push(format!("c{}", fields(&taken)));
+    }
+
+    fn chart(&mut self, weights: Weights, scratch: u32, words: &[u32]) {
+        let taken = [&weights[..], &[scratch], words].concat();
+        self.lines.push(format!("f{}", fields(&taken)));
+    }
+
+    fn chance_and_chart(&mut self, weights: Weights, scratch: u32, words: &[u32]) {
+        self.chance(weights, scratch, words);
+        self.chart(weights, scratch, words);
     }
 
     fn known_lots(&mut self) {
@@ -206,6 +228,75 @@ impl Cases {
             self.admission(&words);
         }
     }
+
+    /// Those of 01 and of the published tables.
+    fn known_chances(&mut self) {
+        for &(words, weights, _) in edges::CHANCES {
+            self.chance_and_chart(weights, scratch(words), words);
+        }
+        for row in published::rows() {
+            self.chance(row.weights, scratch(&row.words), &row.words);
+        }
+    }
+
+    /// Sums of weights and lengths of the scratch at their limits, and the
+    /// largest plans.
+    fn chances_at_limits(&mut self) {
+        for words in [edges::UNIT, A, B, ONE, SEVEN] {
+            let exact = scratch(words);
+            for &weights in edges::WEIGHTS {
+                self.chance_and_chart(weights, exact, words);
+            }
+            for length in [0, exact - 1, exact, exact + 1, MOST_SCRATCH] {
+                self.chance_and_chart([80, 13, 7], length, words);
+            }
+        }
+        for words in edges::LARGEST {
+            let near_the_numbers = [942_000, 3_000, 55_000];
+            self.chance_and_chart(near_the_numbers, MOST_SCRATCH, words);
+            self.chance_and_chart(near_the_numbers, MOST_SCRATCH - 1, words);
+        }
+    }
+
+    /// Several refusals at once, of which the lowest is given.
+    fn refused_chances(&mut self) {
+        for words in [&[], &A[..4], &[5, 2, 3, 1, 3], &edges::WRAPS[0][..]] {
+            for weights in [[1, 1, 1], [0, 0, 0], [u32::MAX, 1, 5]] {
+                self.chance_and_chart(weights, 0, words);
+                self.chance_and_chart(weights, MOST_SCRATCH, words);
+            }
+        }
+        for weights in [[0, 0, 0], [1_000_000, 0, 1], [u32::MAX, 1, 5]] {
+            self.chance_and_chart(weights, 0, A);
+            self.chance_and_chart(weights, scratch(B) - 1, B);
+        }
+    }
+
+    fn random_chances(&mut self) {
+        for (plans, least, most) in [(105, 1, 10), (70, 11, 70), (7, 800, 1000)] {
+            for round in 0..plans {
+                let units = self.random.between(least, most);
+                let words = draw::plan(&mut self.random, 1 + round % 7, units);
+                let plan = Plan::admitted(&words).expect("the plan is drawn as an admitted one");
+                let weights = draw::weights(&mut self.random, &plan);
+                let more = self.random.pick(&[0, 0, 1, 5]);
+                let length = MOST_SCRATCH.min(scratch(&words) + more);
+                self.chance(weights, length, &words);
+                if round % 3 == 0 {
+                    self.chart(weights, length, &words);
+                }
+            }
+        }
+    }
+}
+
+/// The longest scratch of a case, which the largest plans need.
+const MOST_SCRATCH: u32 = 7200;
+
+/// The words of scratch that an admitted plan needs.
+fn scratch(words: &[u32]) -> u32 {
+    let plan = Plan::admitted(words).expect("the plan is admitted");
+    needed(&plan) as u32
 }
 
 pub fn fields(words: &[u32]) -> String {

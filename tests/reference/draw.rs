@@ -1,5 +1,6 @@
 //! Random admitted plans and random lists of classes for them.
 
+use crate::chance::Weights;
 use crate::earliest::Table;
 use crate::plan::{Counts, Plan, Stage, BAD, BOTH, NONGOOD};
 use crate::random::Random;
@@ -91,6 +92,20 @@ fn fitting_mix(plan: &Plan) -> [u32; 3] {
     let Stage { end, r, .. } = plan.last();
     let good = end - r[NONGOOD];
     [good as u32, (r[NONGOOD] - r[BAD]) as u32, r[BAD] as u32]
+}
+
+/// Weights for a chance: a fixed mix, one near the plan's numbers, small ones,
+/// and ones that add to the greatest sum or to less; some without a class.
+pub fn weights(random: &mut Random, plan: &Plan) -> Weights {
+    let mut large = |most: u32| random.at_ends_or_between(0, most);
+    let [good, marginal, bad] = [large(400_000), large(400_000), large(200_000)];
+    match random.index(5) {
+        0 => random.pick(&MIXES),
+        1 => fitting_mix(plan),
+        2 => [(); 3].map(|()| random.between(0, 9)),
+        3 => [1_000_000 - marginal - bad, marginal, bad],
+        _ => [good, marginal, bad],
+    }
 }
 
 /// A complete sample whose counts at each stage end are at or next to the

@@ -1,4 +1,7 @@
-//! Hand-written plans and lists at the edges of 01 "Plan" and 01 "Known lots".
+//! Hand-written plans, lists and weights at the edges of 01 "Plan", 01 "Known
+//! lots" and 01 "Chance of acceptance".
+
+use crate::chance::Weights;
 
 /// Plans A and B of 01 "Known lots".
 pub const A: &[u32] = &[5, 2, 3, 1, 2];
@@ -31,6 +34,52 @@ pub const JUDGED: &[(&[u32], &str, &str)] = &[
     (A, ".122", "0 0 3 2 3 2 3 2 6"),
     (B, ".0000000000", "10 1 10 1 10 1 8 1 0"),
     (B, ".20000000000", "11 1 11 1 11 1 9 1 0"),
+];
+
+/// The chances of 01 "Known lots": plan words, weights, low and high.
+pub const CHANCES: &[(&[u32], Weights, &str)] = &[
+    (UNIT, [1, 1, 1], "366503875925 366503875926"),
+    (UNIT, [1, 0, 1], "549755813888 549755813888"),
+];
+
+/// Size 1, both rows 0, 1.
+pub const UNIT: &[u32] = &[1, 0, 1, 0, 1];
+
+/// Plans with S = 1,000 and last r1 = r2 = 60, of one stage and of seven.
+pub const LARGEST: [&[u32]; 2] = [
+    &[1000, 59, 60, 59, 60],
+    &[
+        140, 3, 30, 2, 28, 140, 8, 36, 6, 33, 140, 14, 42, 11, 40, 140, 20, 48, 17, 46, 140, 27,
+        53, 24, 52, 140, 35, 57, 33, 57, 160, 59, 60, 59, 60,
+    ],
+];
+
+/// Weights that add to 0, 1, 1,000,000 and 1,000,001, weights whose sum would
+/// wrap in 32 bits, and weights without a class.
+pub const WEIGHTS: &[Weights] = &[
+    [0, 0, 0],
+    [1, 0, 0],
+    [0, 1, 0],
+    [0, 0, 1],
+    [999_998, 1, 1],
+    [900_000, 70_000, 30_000],
+    [1_000_000, 0, 0],
+    [0, 1_000_000, 0],
+    [0, 0, 1_000_000],
+    [999_999, 1, 1],
+    [333_333, 333_334, 333_334],
+    [1_000_001, 0, 0],
+    [0, 0, 1_000_001],
+    [MOST, 1, 5],
+    [MOST, 1, 0],
+    [MOST, MOST, 3],
+    [2_147_483_648, 2_147_483_647, 2],
+    [2_147_483_648, 0, 2_147_483_658],
+    [MOST, MOST, MOST],
+    [3, 0, 1],
+    [3, 1, 0],
+    [0, 3, 1],
+    [97, 2, 1],
 ];
 
 /// Lists near those of `KNOWN`, for A and for B, each after a dot.

@@ -12,11 +12,13 @@
 
 mod answers;
 mod cases;
+mod chance;
 mod draw;
 mod earliest;
 mod edges;
 mod judge;
 mod plan;
+mod published;
 mod random;
 mod selftest;
 mod stats;

@@ -1,7 +1,8 @@
 //! What the seeded cases cover, so that one can see that they are telling.
 
-use crate::answers::{Answerer, Case};
+use crate::answers::{Answerer, Call, Case};
 use crate::cases;
+use crate::chance::{Bounds, UNITS};
 use crate::earliest::{few_completions, Stop};
 use crate::judge::Judgement;
 use crate::plan::{broken, Plan};
@@ -21,6 +22,14 @@ pub fn write() -> Result<(), String> {
             Case::Judged(list, words) => match answerer.judged(&list, &words) {
                 Ok(judgement) => judged(&mut tally, &list, &words, &judgement),
                 Err(number) => count(&mut tally, format!("j: refused {number}")),
+            },
+            Case::Chance(call) => match answerer.bounds(&call) {
+                Ok(bounds) => chance(&mut tally, &call, bounds),
+                Err(number) => count(&mut tally, format!("c: refused {number}")),
+            },
+            Case::Chart(call) => match answerer.bounds(&call) {
+                Ok(_) => count(&mut tally, "f: floats".to_string()),
+                Err(number) => count(&mut tally, format!("f: refused {number}")),
             },
         }
     }
@@ -94,4 +103,22 @@ fn stop(tally: &mut Tally, list: &[u8], plan: &Plan, stop: Stop) {
     if few_completions(units, y) {
         count(tally, format!("j: stop also by completions, {size}"));
     }
+}
+
+fn chance(tally: &mut Tally, call: &Call, [low, high]: Bounds) {
+    count(tally, format!("c: k = {}", call.words.len() / 5));
+    count(tally, format!("c: {} weights of 0", zeros(call)));
+    let size = match high - low {
+        0 => "low = high",
+        1..=9 => "high - low to 9",
+        _ => "high - low from 10",
+    };
+    count(tally, format!("c: {size}"));
+    if low > UNITS / 100 && high < UNITS / 100 * 99 {
+        count(tally, "c: chance from 0.01 to 0.99".to_string());
+    }
+}
+
+fn zeros(call: &Call) -> usize {
+    call.weights.iter().filter(|&&weight| weight == 0).count()
 }

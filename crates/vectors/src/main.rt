@@ -1,5 +1,6 @@
 // Answers each case line of standard input by one line on standard output. A line's first byte is
 // its kind. A new kind needs an arm in `reply` and a function on the line, in its own module.
+mod chances;
 mod line;
 mod lists;
 mod plans;
@@ -21,6 +22,8 @@ fn reply(line: &[u8]) -> Reply {
     match line[0] {
         b'a' => plans::admission(line),
         b'j' => lists::judged(line),
+        b'c' => chances::answer(line, false),
+        b'f' => chances::answer(line, true),
         _ => Reply::BadLine,
     }
 }

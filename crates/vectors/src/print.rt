@@ -9,6 +9,7 @@ pub enum Reply {
     // A refusal, with its number.
     No(u64),
     Judgement(Judgement),
+    Pair(u64, u64),
 }
 
 // A stop's units and state, and a space after each.
@@ -45,5 +46,11 @@ pub fn write(reply: Reply) {
             io::write_all(STDOUT_FILENO, b"\n");
         }
         Reply::Judgement(j) => judgement(j),
+        Reply::Pair(low, high) => {
+            io::print_decimal(STDOUT_FILENO, low);
+            io::write_all(STDOUT_FILENO, b" ");
+            io::print_decimal(STDOUT_FILENO, high);
+            io::write_all(STDOUT_FILENO, b"\n");
+        }
     }
 }
