@@ -46,7 +46,7 @@ module _ (start : ℕ) (base : first-record ≤ start) (w : List ℕ) (hi : ℕ)
       let y : _≡_ {A = ℕ} 0 1 = cc in absurd (omega arith)
   some-number (suc n) e = omega arith
 
-  find-lot : (n : ℕ) → find n ls ≡ some l → Found start w hi n (last-below n 0 ls) ls l
+  pub find-lot : (n : ℕ) → find n ls ≡ some l → Found start w hi n (last-below n 0 ls) ls l
   find-lot n e =
       let one = some-number n e in
       let f = found start base w hi n ls 0 (word w first-lot) l c e in

@@ -34,13 +34,13 @@ use Rattle.sheet.proofs.Change.{some-lot, Found, lot-found, standing-is
 use Rattle.sheet.proofs.Opened.{within}
 
 -- a total more
-record Added (w v : List ℕ) (i n : ℕ) : Type 0 where
-  len : length v ≡ length w
-  here : word v i ≡ word w i + n
-  other : (k : ℕ) → k ≢ i → word v k ≡ word w k
-  same : (q : ℕ) → first-record ≤ q → Same w v q
+pub record Added (w v : List ℕ) (i n : ℕ) : Type 0 where
+  pub len : length v ≡ length w
+  pub here : word v i ≡ word w i + n
+  pub other : (k : ℕ) → k ≢ i → word v k ≡ word w k
+  pub same : (q : ℕ) → first-record ≤ q → Same w v q
 
-added : (w : List ℕ) (i n : ℕ) → 48 ≤ length w → i < 44 → Added w (add-to w i n) i n
+pub added : (w : List ℕ) (i n : ℕ) → 48 ≤ length w → i < 44 → Added w (add-to w i n) i n
 unfolding add-to
 added w i n l b = record {
   len = length-set w i (word w i + n);
@@ -59,7 +59,7 @@ pub record Totalled (w v : List ℕ) (i n : ℕ) (c : Counts) : Type 0 where
   pub other : (k : ℕ) → k < 41 → k ≢ i → word v k ≡ word w k
   pub same : (q : ℕ) → first-record ≤ q → Same w v q
 
-totalled : (w : List ℕ) (i n : ℕ) (c : Counts) → 48 ≤ length w → i < 41 → Totalled w (add-to (add-to (add-to (add-to w i n) good-units (c .good)) marginal-units (c .marginal)) bad-units (c .bad)) i n c
+pub totalled : (w : List ℕ) (i n : ℕ) (c : Counts) → 48 ≤ length w → i < 41 → Totalled w (add-to (add-to (add-to (add-to w i n) good-units (c .good)) marginal-units (c .marginal)) bad-units (c .bad)) i n c
 totalled w i n c l b =
     let w1 = add-to w i n in
     let w2 = add-to w1 good-units (c .good) in

@@ -20,7 +20,7 @@ use Rattle.sheet.proofs.Outcomes.{by-rows}
 use Rattle.sheet.proofs.Invariant.{Inv}
 
 module _ (p w : List ℕ) (adm : admitted p ≡ true) (long : 48 ≤ length w) (short : length w ≤ 65536) where
-  same-length : length (fresh-words p w) ≡ length w
+  pub same-length : length (fresh-words p w) ≡ length w
   unfolding fresh-words
   same-length = let a = shape p adm in simp (length-append, length-replicate, length-drop) (omega arith)
 
@@ -29,7 +29,7 @@ module _ (p w : List ℕ) (adm : admitted p ≡ true) (long : 48 ≤ length w) (
   plan-there = take-at p (replicate (44 - (4 + length p)) 0 ++ drop 44 w) (5 * length (stages p)) (shape p adm .whole)
 
   -- the header after the plan
-  zero-word : (i : ℕ) → length p ≤ i → i < 40 → word (fresh-words p w) (4 + i) ≡ 0
+  pub zero-word : (i : ℕ) → length p ≤ i → i < 40 → word (fresh-words p w) (4 + i) ≡ 0
   unfolding fresh-words
   zero-word i low high =
       let zeros : List ℕ = replicate (44 - (4 + length p)) 0 in

@@ -52,14 +52,14 @@ module _ (p : List Stage) where
   before-last : (h : List ℕ) (c : ℕ) → Undecided-before p (h ++ (c ∷ [])) → earliest p (counts h) ≡ GoOn
   before-last h c o = ap (λ (l : List ℕ). earliest p (counts l)) (sym (take-append-seam h (c ∷ []))) ∙ o (length h) (omega (arith, length-append h (c ∷ [])))
 
-  fact : (is : List Inspection) → undecided-before p is ≡ true → Undecided-before p (classes is)
+  pub fact : (is : List Inspection) → undecided-before p is ≡ true → Undecided-before p (classes is)
   fact [] h = λ y b. absurd (omega arith)
   fact (i ∷ is) h =
       subst (Undecided-before p) (sym (classes-cons i is))
       (one-more (classes is) (i .class) (goes-on (earliest p (counts (classes is))) (and-left (undecided (earliest p (counts (classes is)))) (undecided-before p is) h))
       (fact is (and-right (undecided (earliest p (counts (classes is)))) (undecided-before p is) h)))
 
-  test : (is : List Inspection) → Undecided-before p (classes is) → undecided-before p is ≡ true
+  pub test : (is : List Inspection) → Undecided-before p (classes is) → undecided-before p is ≡ true
   test [] h = refl
   test (i ∷ is) h =
       let o = subst (Undecided-before p) (classes-cons i is) h in

@@ -20,3 +20,18 @@ pub mod Demand1
 pub mod Demand3
 mod Replies
 pub mod Corollaries
+mod Used
+mod ChainSteps
+mod Tested
+mod LotSteps
+mod FreeSteps
+mod HeaderSteps
+mod SurveySteps
+mod NewRecord
+mod FreedChain
+mod TotalsKept
+mod Unlinked
+mod HeaderWords
+mod FreshOutcome
+mod Sizes
+mod Requires

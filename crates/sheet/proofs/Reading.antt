@@ -20,7 +20,7 @@ use Rattle.sheet.proofs.HistoryLaws.{undecided-tests, undecided-facts}
 -- ---- complete: what the words hold is read
 
 module _ (start : ℕ) (base : 1 ≤ start) (w : List ℕ) where
-  reads-inspections : (lot at : ℕ) (is : List Inspection) → Inspections start w (word w next-unused) lot is at → read-inspections start w lot (length is) at ≡ some is
+  pub reads-inspections : (lot at : ℕ) (is : List Inspection) → Inspections start w (word w next-unused) lot is at → read-inspections start w lot (length is) at ≡ some is
   unfolding read-inspections
   reads-inspections lot at [] h = rw (eq-eqb at 0 h)
   reads-inspections lot at (i ∷ is) h =
@@ -36,7 +36,7 @@ module _ (start : ℕ) (base : 1 ≤ start) (w : List ℕ) where
         reads-inspections lot (next w (i .at)) is (h .1),
       )
 
-  serials : (lot at : ℕ) (is : List Inspection) → Inspections start w (word w next-unused) lot is at → serial-at w at ≡ length is
+  pub serials : (lot at : ℕ) (is : List Inspection) → Inspections start w (word w next-unused) lot is at → serial-at w at ≡ length is
   unfolding serial-at
   serials lot at [] h = rw (eq-eqb at 0 h)
   serials lot at (i ∷ is) h = let x = h .0 in rw (x .here, ne-eqb (i .at) 0 (omega arith)) (x .serial)
@@ -129,7 +129,7 @@ module _ {A B : Type 0} where
   followed (some a) rest b e = (a, refl, e)
 
 module _ (start : ℕ) (w : List ℕ) where
-  sound-inspections : (lot n at : ℕ) (is : List Inspection) → read-inspections start w lot n at ≡ some is → Inspections start w (word w next-unused) lot is at × (n ≡ length is)
+  pub sound-inspections : (lot n at : ℕ) (is : List Inspection) → read-inspections start w lot n at ≡ some is → Inspections start w (word w next-unused) lot is at × (n ≡ length is)
   unfolding read-inspections
   sound-inspections lot zero at is e =
       let g = guarded (eqb at 0) (λ ok. some []) is e in
@@ -158,7 +158,7 @@ module _ (start : ℕ) (w : List ℕ) where
         ap suc l,
       )
 
-  sound-free : (n at : ℕ) (js : List ℕ) → read-free start w n at ≡ some js → Free start w (word w next-unused) js at × (n ≡ length js)
+  pub sound-free : (n at : ℕ) (js : List ℕ) → read-free start w n at ≡ some js → Free start w (word w next-unused) js at × (n ≡ length js)
   unfolding read-free
   sound-free zero at js e =
       let g = guarded (eqb at 0) (λ ok. some []) js e in
@@ -185,7 +185,7 @@ module _ (start : ℕ) (w : List ℕ) where
         ap suc l,
       )
 
-  sound-lots : (n above at : ℕ) (ls : List Lot) → read-lots start w n above at ≡ some ls → Lots start w (word w next-unused) above ls at
+  pub sound-lots : (n above at : ℕ) (ls : List Lot) → read-lots start w n above at ≡ some ls → Lots start w (word w next-unused) above ls at
   unfolding read-lots
   sound-lots zero above at ls e =
       let g = guarded (eqb at 0) (λ ok. some []) ls e in

@@ -2,8 +2,10 @@ pub mod Layout
 pub mod Contents
 pub mod Holds
 pub mod Read
+pub mod Survey
 pub mod Reply
 pub mod Calls
+pub mod Writes
 pub mod History
 pub mod Demand1
 pub mod Demand3

@@ -1,8 +1,18 @@
 // A sheet: many lots in inspection on one borrowed run of words. Document 01, "Sheet".
-// Here are the calls' replies. The calls are defined in specs/Calls.antt, and proofs/Demand3.antt has the theorem on every list
-// of them; their code is still to come.
+mod chain;
+mod freeing;
+mod fresh_sheet;
+mod granting;
+mod header;
+mod layout;
+mod record;
 mod reply;
+mod size;
+mod survey;
+mod totals;
+mod writing;
 
+pub use fresh_sheet::fresh;
 pub use reply::Done;
 pub use reply::Looked;
 pub use reply::Shown;

@@ -1,0 +1,156 @@
+-- What the walk over the lots finds is the lot of the number, and the whole survey is by the walks. Assumes nothing.
+use Prim.Native.Nat.{ℕ, _+_, _≤_, _<_}
+use mathlib.Core.Path.{_≡_, refl, sym, ap, ap₂, _∙_}
+use mathlib.Core.Bool.{Bool, true, false, cond, _&&_}
+use mathlib.Core.Option.{Option, none, some}
+use mathlib.Core.List.{List, [], _∷_}
+use native.Mathlib.Nat.{add-zero}
+use native.Mathlib.Omega.{arith}
+use native.Mathlib.Decide.{decLt}
+use lib.ListN.{length}
+use lib.Dec.{eqb}
+use borrow.Author.Tests.{lt-ltb, le-ltb, eq-eqb, ne-eqb}
+use Rattle.plan.specs.declared.counts.Counts.{Counts}
+use Rattle.plan.specs.Plan.{Stage, stages}
+use Rattle.plan.specs.Counts.{units, no-units, counts}
+use Rattle.plan.proofs.Promise.{counting}
+use Rattle.sheet.specs.declared.chain.FreeChain.{FreeChain}
+use Rattle.sheet.specs.declared.chain.FreeChain.the-variants as free
+use Rattle.sheet.specs.declared.survey.Found.{Found}
+use Rattle.sheet.specs.declared.survey.Surveyed.{Surveyed}
+use Rattle.sheet.specs.declared.survey.Surveyed.the-variants.{Corrupt, Intact}
+use Rattle.sheet.specs.Layout.{word, records, next-unused, first-lot, first-free, first-record, plan-words}
+use Rattle.sheet.specs.Contents.{Lot, Contents, history, records-of, find}
+use Rattle.sheet.specs.Holds.{Lots}
+use Rattle.sheet.specs.Read.{guard, then, depth, read-lots, read-free, all-undecided-before, header-ok, contents-ok, read-from, read}
+use Rattle.sheet.specs.Calls.{last-below}
+use Rattle.sheet.specs.Survey.{with-lot-found, found-from, nothing-found, lots-survey, free-of, found, survey-of}
+use Rattle.sheet.proofs.HistoryLaws.{length-classes}
+use Rattle.sheet.proofs.Reading.{sound-lots}
+use Rattle.sheet.proofs.Lots.{find-above}
+
+-- ---- what is found
+
+lot-units : (l : Lot) → units (counts (history l)) ≡ length (l .inspections)
+lot-units l = counting .length-of (history l) ∙ length-classes (l .inspections)
+
+-- with so many records used, and nothing else changed
+abbrev with-used : Found → ℕ → Found
+with-used f n = record { used = n; before = f .before; at = f .at; counts = f .counts }
+
+module _ (w : List ℕ) (hi n : ℕ) where
+  -- past the number that is sought nothing more is found
+  passed : (f : Found) (ls : List Lot) (above at : ℕ) → n ≤ above → Lots first-record w hi above ls at → found-from n f ls ≡ with-used f (f .used + records-of ls)
+  passed f [] above at l h = ap (with-used f) (sym (add-zero (f .used)))
+  passed f (m ∷ ls) above at l h =
+      let u = lot-units m in
+      let r : n < m .number = omega (arith, h .0 .rises) in
+      let sum : f .used + (1 + units (counts (history m))) + records-of ls ≡ f .used + (1 + length (m .inspections) + records-of ls) = omega arith in
+      rw (le-ltb (m .number) n (omega arith), ne-eqb n (m .number) (λ e. omega arith))
+      (passed (with-used f (f .used + (1 + units (counts (history m))))) ls (m .number) _ (omega arith) (h .2) ∙ ap (with-used f) sum)
+
+  -- f, with the lot that is on the sheet
+  abbrev with-lot : Found → Option Lot → ℕ → ℕ → Found
+  with-lot f none before used = record { used = used; before = before; at = f .at; counts = f .counts }
+  with-lot f (some l) before used = record { used = used; before = before; at = l .at; counts = counts (history l) }
+
+  same-lot : (f g : Found) (o : Option Lot) (before x y : ℕ) → x ≡ y → f .at ≡ g .at → f .counts ≡ g .counts → with-lot f o before x ≡ with-lot g o before y
+  same-lot f g none before x y e a c = cc
+  same-lot f g (some l) before x y e a c = ap (λ (u : ℕ). record { used = u; before = before; at = l .at; counts = counts (history l) }) e
+
+  found-is : (f : Found) (ls : List Lot) (above at : ℕ) → Lots first-record w hi above ls at
+      → found-from n f ls ≡ with-lot f (find n ls) (last-below n (f .before) ls) (f .used + records-of ls)
+  found-is f [] above at h = ap (with-used f) (sym (add-zero (f .used)))
+  found-is f (m ∷ ls) above at h =
+      go (decLt (m .number) n) (decLt n (m .number))
+      (found-is (record { used = f .used + (1 + units (counts (history m))); before = m .at; at = f .at; counts = f .counts }) ls (m .number) _ (h .2))
+    where
+      sum : f .used + (1 + units (counts (history m))) + records-of ls ≡ f .used + (1 + length (m .inspections) + records-of ls)
+      sum = omega (arith, lot-units m)
+
+      go : Dec (m .number < n) → Dec (n < m .number)
+          → found-from n (record { used = f .used + (1 + units (counts (history m))); before = m .at; at = f .at; counts = f .counts }) ls
+          ≡ with-lot (record { used = f .used + (1 + units (counts (history m))); before = m .at; at = f .at; counts = f .counts }) (find n ls) (last-below n (m .at) ls) (f .used + (1 + units (counts (history m))) + records-of ls)
+          → found-from n f (m ∷ ls) ≡ with-lot f (find n (m ∷ ls)) (last-below n (f .before) (m ∷ ls)) (f .used + (1 + length (m .inspections) + records-of ls))
+      go (yes l) d later =
+          rw (lt-ltb (m .number) n l, ne-eqb n (m .number) (λ e. omega arith))
+          (later ∙ same-lot (record { used = f .used + (1 + units (counts (history m))); before = m .at; at = f .at; counts = f .counts }) f (find n ls) (last-below n (m .at) ls) _ _ sum refl refl)
+      go (no l) (yes k) later =
+          rw (le-ltb (m .number) n (omega arith), ne-eqb n (m .number) (λ e. omega arith), find-above first-record (omega arith) w hi n (m .number) _ ls (omega arith) (h .2))
+          (passed (with-used f (f .used + (1 + units (counts (history m))))) ls (m .number) _ (omega arith) (h .2) ∙ ap (with-used f) sum)
+      go (no l) (no k) later =
+          rw (le-ltb (m .number) n (omega arith), eq-eqb n (m .number) (omega arith))
+          (passed (record { used = f .used + (1 + units (counts (history m))); before = f .before; at = m .at; counts = counts (history m) }) ls (m .number) _ (omega arith) (h .2)
+          ∙ ap (λ (u : ℕ). record { used = u; before = f .before; at = m .at; counts = counts (history m) }) sum)
+
+-- ---- the whole survey
+
+and-true : (b : Bool) → (b && true) ≡ b
+and-true true = refl
+and-true false = refl
+
+and-false : (b : Bool) → (b && false) ≡ false
+and-false true = refl
+and-false false = refl
+
+-- by the lots and the free records
+abbrev pub by-walks : List ℕ → Surveyed → FreeChain → Surveyed
+by-walks w Corrupt c = Corrupt
+by-walks w (Intact f) free.Cut = Corrupt
+by-walks w (Intact f) (free.Whole k) = cond (eqb (first-record + (f .used + k)) (word w next-unused)) (Intact f) Corrupt
+
+module _ (w : List ℕ) (n : ℕ) where
+  abbrev p : List Stage
+  p = stages (plan-words w)
+
+  -- the lot is the one that `find` gives
+  same-found : (ls : List Lot) → Lots first-record w (word w next-unused) 0 ls (word w first-lot)
+      → found-from n nothing-found ls ≡ found n (find n ls) (last-below n 0 ls) (records-of ls)
+  same-found ls h = found-is w (word w next-unused) n nothing-found ls 0 (word w first-lot) h ∙ go (find n ls)
+    where
+      go : (o : Option Lot) → with-lot w (word w next-unused) n nothing-found o (last-below n 0 ls) (0 + records-of ls) ≡ found n o (last-below n 0 ls) (records-of ls)
+      go none = ap (λ (u : ℕ). record { used = u; before = last-below n 0 ls; at = 0; counts = no-units }) (omega arith)
+      go (some l) = ap (λ (u : ℕ). record { used = u; before = last-below n 0 ls; at = l .at; counts = counts (history l) }) (omega arith)
+
+  -- what was found stands if the records are counted
+  found-one : (ls : List Lot) (js : List ℕ) (o : Option Lot) (x : Bool) → find n ls ≡ o → eqb (first-record + (records-of ls + length js)) (word w next-unused) ≡ x
+      → survey-of n (guard x (λ ok. some (record { lots = ls; free = js }))) ≡ by-walks w (Intact (found n o (last-below n 0 ls) (records-of ls))) (free.Whole (length js))
+  found-one ls js none true f e = rw (f, e)
+  found-one ls js none false f e = rw e
+  found-one ls js (some l) true f e = rw (f, e)
+  found-one ls js (some l) false f e = rw e
+
+  last-test : (ls : List Lot) (js : List ℕ) → Lots first-record w (word w next-unused) 0 ls (word w first-lot)
+      → survey-of n (guard (contents-ok first-record w (record { lots = ls; free = js })) (λ ok. some (record { lots = ls; free = js })))
+      ≡ by-walks w (cond (all-undecided-before p ls) (Intact (found-from n nothing-found ls)) Corrupt) (free.Whole (length js))
+  last-test ls js h = go (all-undecided-before p ls) (eqb (first-record + (records-of ls + length js)) (word w next-unused)) refl
+    where
+      go : (b x : Bool) → eqb (first-record + (records-of ls + length js)) (word w next-unused) ≡ x
+          → survey-of n (guard (x && b) (λ ok. some (record { lots = ls; free = js }))) ≡ by-walks w (cond b (Intact (found-from n nothing-found ls)) Corrupt) (free.Whole (length js))
+      go false x e = rw (and-false x)
+      go true x e = rw (and-true x, same-found ls h) (found-one ls js (find n ls) x refl e)
+
+  pub by-header : header-ok first-record w ≡ true
+      → survey-of n (read w) ≡ by-walks w (lots-survey p n nothing-found (read-lots first-record w (records w) 0 (word w first-lot))) (free-of (read-free first-record w (depth w) (word w first-free)))
+  unfolding read-from
+  by-header e = rw e (go (read-lots first-record w (records w) 0 (word w first-lot)) refl (read-free first-record w (depth w) (word w first-free)))
+    where
+      go : (L : Option (List Lot)) → read-lots first-record w (records w) 0 (word w first-lot) ≡ L → (F : Option (List ℕ))
+          → survey-of n (then L (λ ls. then F (λ js. guard (contents-ok first-record w (record { lots = ls; free = js })) (λ ok. some (record { lots = ls; free = js })))))
+          ≡ by-walks w (lots-survey p n nothing-found L) (free-of F)
+      go none f F = refl
+      go (some ls) f none = cut (all-undecided-before p ls)
+        where
+          cut : (b : Bool) → Corrupt ≡ by-walks w (cond b (Intact (found-from n nothing-found ls)) Corrupt) free.Cut
+          cut true = refl
+          cut false = refl
+      go (some ls) f (some js) = last-test ls js (sound-lots first-record w (records w) 0 (word w first-lot) ls f)
+
+  pub no-header : header-ok first-record w ≡ false → survey-of n (read w) ≡ Corrupt
+  unfolding read-from
+  no-header e = rw e
+
+  -- with what the walks of the code gave
+  pub by-code : header-ok first-record w ≡ true → (v : Surveyed) → v ≡ lots-survey p n nothing-found (read-lots first-record w (records w) 0 (word w first-lot))
+      → (k : FreeChain) → k ≡ free-of (read-free first-record w (depth w) (word w first-free)) → by-walks w v k ≡ survey-of n (read w)
+  by-code e v f k g = ap₂ (by-walks w) f g ∙ sym (by-header e)

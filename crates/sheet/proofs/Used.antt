@@ -1,0 +1,25 @@
+-- A record in use lies within the sheet. Assumes nothing.
+use Prim.Native.Nat.{ℕ, _+_, _*_, _/_, _≤_, _<_}
+use mathlib.Core.Path.{_≡_}
+use mathlib.Core.Bool.{true}
+use mathlib.Core.List.{List}
+use native.Mathlib.Omega.{arith}
+use lib.ListN.{length}
+use lib.Dec.{leb, ltb}
+use borrow.Author.Tests.{ltb-true}
+use Rattle.sheet.specs.Layout.{word, next-unused, first-record}
+use Rattle.sheet.specs.Read.{in-use}
+use Rattle.sheet.specs.Survey.{Sized, is-inspection, is-free, is-lot}
+use Rattle.sheet.proofs.Bools.{and-left, and-right}
+
+pub record-within : (w : List ℕ) (at : ℕ) → Sized w → in-use first-record w at ≡ true → 4 * at + 3 < length w
+record-within w at s e = omega (arith, s .room, ltb-true at (word w next-unused) (and-right (leb first-record at) (ltb at (word w next-unused)) e))
+
+pub inspection-within : (w : List ℕ) (lot serial at : ℕ) → Sized w → is-inspection w lot serial at ≡ true → 4 * at + 3 < length w
+inspection-within w lot serial at s e = record-within w at s (search (and-left, and-right))
+
+pub free-within : (w : List ℕ) (depth at : ℕ) → Sized w → is-free w depth at ≡ true → 4 * at + 3 < length w
+free-within w depth at s e = record-within w at s (search (and-left, and-right))
+
+pub lot-within : (w : List ℕ) (above at : ℕ) → Sized w → is-lot w above at ≡ true → 4 * at + 3 < length w
+lot-within w above at s e = record-within w at s (search (and-left, and-right))

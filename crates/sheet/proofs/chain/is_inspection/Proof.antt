@@ -1,0 +1,38 @@
+-- `sheet::is_inspection` meets its contract: one test after the other. Assumes nothing.
+use borrow.Author.Needs.{needs}
+use borrow.Author.Tests.{leb-true, ltb-true, le-leb, lt-leb, eq-eqb, ne-eqb, not-true, not-false}
+use mathlib.Core.Path.{_≡_, ap, sym, _∙_}
+use native.Mathlib.Omega.{arith}
+use Rattle.sheet.specs.declared.record.Record.{Record}
+use Rattle.sheet.specs.Layout.{field, free-tag}
+use Rattle.sheet.proofs.Used.{record-within}
+use Rattle.sheet.proofs.chain.is_inspection.Statement.{statement}
+use Rattle.sheet.proofs.chain.is_inspection.Tie as tie
+
+returns : tie.Need-returns
+returns c = rw (sym (c .before .is-used .ensures) ∙ not-true _ (c .if1 .taken))
+
+record-at-requires : tie.Need-record-at-requires
+record-at-requires c κs =
+    let s = c .before .before .before in
+    (record-within (s .args .sheet .now) (s .args .at) (s .pre) (sym (c .before .is-used .ensures) ∙ not-false _ (c .if1 .left)), s .pre .short)
+
+returns-2 : tie.Need-returns-2
+returns-2 c = rw (sym (c .before .before .before .before .is-used .ensures) ∙ not-false _ (c .before .before .before .if1 .left), lt-leb _ _ (rw (ap (λ (r : Record). r .a) (c .before .before .record-at .ensures)) at (c .if2 .taken)))
+
+returns-3 : tie.Need-returns-3
+returns-3 c = rw (sym (c .before .before .before .before .before .before .is-used .ensures) ∙ not-false _ (c .before .before .before .before .before .if1 .left), le-leb _ _ (rw (ap (λ (r : Record). r .a) (c .before .before .before .before .record-at .ensures)) at (c .before .before .if2 .left)), ne-eqb _ _ (rw (ap (λ (r : Record). r .c) (c .before .before .before .before .record-at .ensures)) at (c .if3 .taken)))
+
+returns-4 : tie.Need-returns-4
+returns-4 c = rw (sym (c .before .before .before .before .before .before .before .is-used .ensures) ∙ not-false _ (c .before .before .before .before .before .before .if1 .left), le-leb _ _ (rw (ap (λ (r : Record). r .a) (c .before .before .before .before .before .record-at .ensures)) at (c .before .before .before .if2 .left)), eq-eqb _ _ (rw (ap (λ (r : Record). r .c) (c .before .before .before .before .before .record-at .ensures)) at (c .before .if3 .left)), ap (λ (r : Record). r .d) (c .before .before .before .before .before .record-at .ensures))
+
+pub is-inspection-spec : {M : Type 1} → statement M
+is-inspection-spec =
+    tie.close
+    (tie.spec
+    (λ c κs. search needs)
+    returns
+    record-at-requires
+    returns-2
+    returns-3
+    returns-4)

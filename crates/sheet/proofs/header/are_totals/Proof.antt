@@ -1,0 +1,33 @@
+-- `sheet::are_totals` meets its contract: the sums fit in 64 bits. Assumes nothing.
+use borrow.Author.Needs.{needs}
+use native.Mathlib.Omega.{arith}
+use borrow.Author.Tests.{le-leb, lt-leb}
+use Rattle.sheet.proofs.header.are_totals.Statement.{statement}
+use Rattle.sheet.proofs.header.are_totals.Tie as tie
+
+returns : tie.Need-returns
+returns c = rw (lt-leb _ _ (c .if1 .taken))
+
+returns-2 : tie.Need-returns-2
+returns-2 c = rw (le-leb _ _ (c .if1 .left))
+
+pub are-totals-spec : {M : Type 1} → statement M
+are-totals-spec =
+    tie.close
+    (tie.spec
+    (λ c. search needs)
+    (λ c. omega (arith, c .shared-slice-known .given 39))
+    (λ c. search needs)
+    (λ c. omega (arith, c .shared-slice-known2 .given 40))
+    (λ c. omega (arith, c .shared-slice-known2 .given 40, c .before .shared-slice-known .given 39))
+    (λ c. search needs)
+    (λ c. omega (arith, c .shared-slice-known3 .given 41))
+    (λ c. search needs)
+    (λ c. omega (arith, c .shared-slice-known4 .given 42))
+    (λ c. omega (arith, c .shared-slice-known4 .given 42, c .before .shared-slice-known3 .given 41))
+    (λ c. search needs)
+    (λ c. omega (arith, c .shared-slice-known5 .given 43))
+    (λ c. omega (arith, c .shared-slice-known5 .given 43, c .before .shared-slice-known4 .given 42, c .before .before .shared-slice-known3 .given 41))
+    returns
+    (λ c. omega arith)
+    returns-2)

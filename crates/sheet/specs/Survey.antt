@@ -1,0 +1,108 @@
+-- What the code's walks over a sheet find, by the definitions of Read.antt.
+use Prim.Native.Nat.{ℕ, _+_, _*_, _≤_}
+use mathlib.Core.Bool.{Bool, true, cond, _&&_}
+use mathlib.Core.Option.{Option, none, some}
+use mathlib.Core.List.{List, [], _∷_}
+use lib.ListN.{length}
+use lib.Dec.{leb, ltb, eqb}
+use Rattle.plan.specs.declared.counts.Counts.{Counts}
+use Rattle.plan.specs.Plan.{Stage, end-below}
+use Rattle.plan.specs.Counts.{no-units, units, counts}
+use Rattle.plan.specs.Stopping.{earliest}
+use Rattle.sheet.specs.declared.record.Record.{Record}
+use Rattle.sheet.specs.declared.chain.Chain.{Chain}
+use Rattle.sheet.specs.declared.chain.Chain.the-variants as chain
+use Rattle.sheet.specs.declared.chain.FreeChain.{FreeChain}
+use Rattle.sheet.specs.declared.chain.FreeChain.the-variants as free
+use Rattle.sheet.specs.declared.survey.Found.{Found}
+use Rattle.sheet.specs.declared.survey.Surveyed.{Surveyed}
+use Rattle.sheet.specs.declared.survey.Surveyed.the-variants as survey
+use Rattle.sheet.specs.Layout.{word, field, records, next-unused, first-record, highest-class, free-tag, closed-lots, closed-units, most-closed}
+use Rattle.sheet.specs.Contents.{Inspection, Lot, Contents, classes, history, records-of, find}
+use Rattle.sheet.specs.Read.{in-use, undecided, all-undecided-before}
+use Rattle.sheet.specs.Calls.{last-below}
+
+-- the words of a record
+abbrev pub record-at : List ℕ → ℕ → Record
+record-at w j = record { a = field w j 0; b = field w j 1; c = field w j 2; d = field w j 3 }
+
+-- 48 to 65,536 words, and no record in use beyond them
+pub record Sized (w : List ℕ) : Type 0 where
+  pub long : 48 ≤ length w
+  pub short : length w ≤ 65536
+  pub room : word w next-unused ≤ records w
+
+-- the totals are within their bounds
+abbrev pub are-totals : List ℕ → Bool
+are-totals w = leb (closed-lots w) most-closed && leb (closed-units w) (1000 * closed-lots w)
+
+-- ---- the tests of one record
+
+abbrev pub is-inspection : List ℕ → ℕ → ℕ → ℕ → Bool
+is-inspection w lot serial at =
+    in-use first-record w at && leb (field w at 0) highest-class && eqb (field w at 2) lot && eqb (field w at 3) serial
+
+abbrev pub is-free : List ℕ → ℕ → ℕ → Bool
+is-free w depth at = in-use first-record w at && eqb (field w at 0) depth && eqb (field w at 2) 0 && eqb (field w at 3) free-tag
+
+abbrev pub is-lot : List ℕ → ℕ → ℕ → Bool
+is-lot w above at = in-use first-record w at && ltb above (field w at 0) && eqb (field w at 3) 0
+
+-- ---- a lot's inspections
+
+-- n units of which c are: undecided, if n is the number to be tested
+abbrev pub may-go-on : List Stage → ℕ → ℕ → Counts → Bool
+may-go-on p test n c = cond (eqb n test) (undecided (earliest p c)) true
+
+-- the next number to be tested below n: the last stage end, once n was tested
+abbrev pub next-test : List Stage → ℕ → ℕ → ℕ
+next-test p test n = cond (eqb n test) (end-below 0 p n) test
+
+-- undecided after `test` units, and at the ends of stages below: enough for every beginning (plan's promise `by-ends`)
+abbrev pub tested : List Stage → ℕ → List Inspection → Bool
+tested p test [] = true
+tested p test (i ∷ is) = may-go-on p test (length is) (counts (classes is)) && tested p (next-test p test (length is)) is
+
+-- the units of the chain that was read, if the test holds of it
+abbrev pub chain-of : (List Inspection → Bool) → Option (List Inspection) → Chain
+chain-of test none = chain.Cut
+chain-of test (some is) = cond (test is) (chain.Whole (counts (classes is))) chain.Cut
+
+-- ---- the free records: as many as were read
+
+abbrev pub free-of : Option (List ℕ) → FreeChain
+free-of none = free.Cut
+free-of (some js) = free.Whole (length js)
+
+-- ---- the lots
+
+-- what is found so far, with the lot in the record `at`, of this number and these units, more; n is the number looked for
+abbrev pub with-lot-found : ℕ → Found → ℕ → ℕ → Counts → Found
+with-lot-found n f at number c = record {
+  used = f .used + (1 + units c);
+  before = cond (ltb number n) at (f .before);
+  at = cond (eqb n number) at (f .at);
+  counts = cond (eqb n number) c (f .counts);
+}
+
+abbrev pub found-from : ℕ → Found → List Lot → Found
+found-from n f [] = f
+found-from n f (l ∷ ls) = found-from n (with-lot-found n f (l .at) (l .number) (counts (history l))) ls
+
+abbrev pub nothing-found : Found
+nothing-found = record { used = 0; before = 0; at = 0; counts = no-units }
+
+abbrev pub lots-survey : List Stage → ℕ → Found → Option (List Lot) → Surveyed
+lots-survey p n f none = survey.Corrupt
+lots-survey p n f (some ls) = cond (all-undecided-before p ls) (survey.Intact (found-from n f ls)) survey.Corrupt
+
+-- ---- the sheet
+
+-- the lot of a number: its record, the record before it, and its units; record 0 and no units where it is not on the sheet
+abbrev pub found : ℕ → Option Lot → ℕ → ℕ → Found
+found n none before used = record { used = used; before = before; at = 0; counts = no-units }
+found n (some l) before used = record { used = used; before = before; at = l .at; counts = counts (history l) }
+
+abbrev pub survey-of : ℕ → Option Contents → Surveyed
+survey-of n none = survey.Corrupt
+survey-of n (some s) = survey.Intact (found n (find n (s .lots)) (last-below n 0 (s .lots)) (records-of (s .lots)))

@@ -1,0 +1,44 @@
+// A new record: the first free, else the next never used. Document 01, "Sheet".
+use crate::layout::FIRST_FREE;
+use crate::layout::NEXT_UNUSED;
+use crate::record::field_of;
+ghost use mathlib.Core.Path.{_≡_};
+ghost use Prim.Native.Nat.{_≤_};
+ghost use lib.ListN.{length};
+ghost use Rattle.sheet.specs.Calls.{full, new-record, take-record};
+ghost use Rattle.sheet.specs.Writes.{Room};
+
+// Is no record free or unused?
+pub fn is_full(sheet: &[u32]) -> bool
+    requires { ⌜ 48 ≤ length (now sheet) ⌝ }
+    ensures { λ r. ⌜ r ≡ full (now (sheet .entry)) ⌝ }
+{
+    if sheet[FIRST_FREE] != 0 {
+        return false;
+    }
+    sheet.len() / 4 <= sheet[NEXT_UNUSED] as usize
+}
+
+pub fn new_record(sheet: &[u32]) -> u32
+    requires { ⌜ 48 ≤ length (now sheet) ⌝ }
+    ensures { λ r. ⌜ r ≡ new-record (now (sheet .entry)) ⌝ }
+{
+    let free = sheet[FIRST_FREE];
+    if free != 0 {
+        return free;
+    }
+    sheet[NEXT_UNUSED]
+}
+
+// Takes the new record off the free chain, or counts it as used.
+pub fn take_record(sheet: &mut [u32])
+    requires { ⌜ Room (now sheet) ⌝ }
+    ensures { λ _. ⌜ now (sheet .exit) ≡ take-record (now (sheet .entry)) ⌝ }
+{
+    let free = sheet[FIRST_FREE];
+    if free != 0 {
+        sheet[FIRST_FREE] = field_of(sheet, free, 1);
+        return;
+    }
+    sheet[NEXT_UNUSED] = sheet[NEXT_UNUSED] + 1;
+}

@@ -1,0 +1,26 @@
+// The places of the words in a sheet's header. Document 01, "Sheet".
+pub const NEXT_UNUSED: usize = 0;
+
+pub const FIRST_LOT: usize = 1;
+
+pub const FIRST_FREE: usize = 2;
+
+pub const STAGE_COUNT: usize = 3;
+
+pub const PLAN_START: usize = 4;
+
+pub const ACCEPTED_LOTS: usize = 39;
+
+pub const REJECTED_LOTS: usize = 40;
+
+pub const GOOD_UNITS: usize = 41;
+
+pub const MARGINAL_UNITS: usize = 42;
+
+pub const BAD_UNITS: usize = 43;
+
+// the words from PLAN_START to the end of the header: the stages and the totals
+pub const STAGES_AND_TOTALS: usize = 40;
+
+// the first record after the header
+pub const FIRST_RECORD: u32 = 11;

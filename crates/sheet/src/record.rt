@@ -1,0 +1,51 @@
+// Records of a sheet, four words each, by their index. Document 01, "Sheet".
+ghost use mathlib.Core.Path.{_≡_};
+ghost use Prim.Native.Nat.{_+_, _*_, _≤_, _<_};
+ghost use lib.ListN.{length, set};
+ghost use Rattle.sheet.specs.Layout.{field, put, put-record};
+ghost use Rattle.sheet.specs.Survey.{record-at};
+
+// The four words of a record: of a lot number, next lot, newest inspection and 0; of an inspection
+// class, next older, its lot's record and serial; of a free record depth, next free, 0 and a tag.
+pub struct Record {
+    pub a: u32,
+    pub b: u32,
+    pub c: u32,
+    pub d: u32,
+}
+
+pub fn field_of(sheet: &[u32], j: u32, f: u32) -> u32
+    requires { ⌜ (4 * j + f < length (now sheet)) × (length (now sheet) ≤ 65536) ⌝ }
+    ensures { λ r. ⌜ r ≡ field (now (sheet .entry)) j f ⌝ }
+{
+    sheet[(4 * j + f) as usize]
+}
+
+pub fn record_at(sheet: &[u32], j: u32) -> Record
+    requires { ⌜ (4 * j + 3 < length (now sheet)) × (length (now sheet) ≤ 65536) ⌝ }
+    ensures { λ r. ⌜ r ≡ record-at (now (sheet .entry)) j ⌝ }
+{
+    Record {
+        a: field_of(sheet, j, 0),
+        b: field_of(sheet, j, 1),
+        c: field_of(sheet, j, 2),
+        d: field_of(sheet, j, 3),
+    }
+}
+
+pub fn put_field(sheet: &mut [u32], j: u32, f: u32, v: u32)
+    requires { ⌜ (4 * j + f < length (now sheet)) × (length (now sheet) ≤ 65536) ⌝ }
+    ensures { λ _. ⌜ now (sheet .exit) ≡ put (now (sheet .entry)) j f v ⌝ }
+{
+    sheet[(4 * j + f) as usize] = v;
+}
+
+pub fn put_record(sheet: &mut [u32], j: u32, a: u32, b: u32, c: u32, d: u32)
+    requires { ⌜ (4 * j + 3 < length (now sheet)) × (length (now sheet) ≤ 65536) ⌝ }
+    ensures { λ _. ⌜ now (sheet .exit) ≡ put-record (now (sheet .entry)) j a b c d ⌝ }
+{
+    put_field(sheet, j, 0, a);
+    put_field(sheet, j, 1, b);
+    put_field(sheet, j, 2, c);
+    put_field(sheet, j, 3, d);
+}

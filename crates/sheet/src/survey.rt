@@ -1,0 +1,136 @@
+// One walk over a sheet: is it intact, and where is the lot of a number?
+use crate::chain::{Chain, FreeChain, free_chain, is_used, lot_inspections};
+use crate::header::is_header;
+use crate::record::record_at;
+use plan::Counts;
+ghost use mathlib.Core.Path.{_≡_};
+ghost use mathlib.Core.Bool.{true};
+ghost use Prim.Native.Nat.{_+_, _≤_};
+ghost use lib.ListN.{length};
+ghost use lib.Dec.{eqb};
+ghost use Rattle.plan.specs.Plan.{stages, admitted};
+ghost use Rattle.plan.specs.Counts.{units};
+ghost use Rattle.sheet.specs.Layout.{next-unused, first-record, first-lot, word, records};
+ghost use Rattle.sheet.specs.Read.{read, read-lots};
+ghost use Rattle.sheet.specs.Survey.{Sized, is-lot, with-lot-found, nothing-found, lots-survey, survey-of};
+
+// What is found for a lot's number: its record and its units, 0 and none where it is not on the sheet;
+// the record before it, whose next lot it is or would be; and the records that all lots and their
+// inspections use.
+pub struct Found {
+    pub used: u32,
+    pub before: u32,
+    pub at: u32,
+    pub counts: Counts,
+}
+
+pub enum Surveyed {
+    Corrupt,
+    Intact(Found),
+}
+
+// Is this a lot's record, with a number above the last one?
+fn is_lot(sheet: &[u32], above: u32, at: u32) -> bool
+    requires { ⌜ Sized (now sheet) ⌝ }
+    ensures { λ r. ⌜ r ≡ is-lot (now (sheet .entry)) above at ⌝ }
+{
+    if !is_used(sheet, at) {
+        return false;
+    }
+    let r = record_at(sheet, at);
+    if r.a <= above {
+        return false;
+    }
+    r.d == 0
+}
+
+// What is found so far, with the lot in the record `at`, of this number and these units, more.
+fn with_lot_found(sought: u32, f: Found, at: u32, number: u32, c: Counts) -> Found
+    requires { ⌜ f .used + (1 + units c) ≤ 4294967295 ⌝ }
+    ensures { λ r. ⌜ r ≡ with-lot-found sought f at number c ⌝ }
+{
+    let used = f.used + (1 + (c.good + c.marginal + c.bad));
+    let mut next = f;
+    next.used = used;
+    if number < sought {
+        next.before = at;
+        return next;
+    }
+    if sought == number {
+        next.at = at;
+        next.counts = c;
+    }
+    next
+}
+
+// The lots, and their inspections.
+fn lots(sheet: &[u32], plan: &[u32], sought: u32) -> Surveyed
+    requires { ⌜ Sized (now sheet) × (admitted (now plan) ≡ true) ⌝ }
+    ensures { λ r. ⌜ r ≡ lots-survey (stages (now (plan .entry))) sought nothing-found (read-lots first-record (now (sheet .entry)) (records (now (sheet .entry))) 0 (word (now (sheet .entry)) first-lot)) ⌝ }
+{
+    let most = plan::sample_size(plan);
+    let mut f = Found {
+        used: 0,
+        before: 0,
+        at: 0,
+        counts: plan::no_units(),
+    };
+    let mut left = sheet.len() / 4;
+    let mut above: u32 = 0;
+    let mut at = sheet[1];
+    while 0 < left {
+        if at == 0 {
+            return Surveyed::Intact(f);
+        }
+        if !is_lot(sheet, above, at) {
+            return Surveyed::Corrupt;
+        }
+        let r = record_at(sheet, at);
+        match lot_inspections(sheet, plan, most, at, r.c) {
+            Chain::Cut => {
+                return Surveyed::Corrupt;
+            }
+            Chain::Whole(c) => {
+                f = with_lot_found(sought, f, at, r.a, c);
+                above = r.a;
+                at = r.b;
+                left -= 1;
+            }
+        }
+    }
+    if at == 0 {
+        return Surveyed::Intact(f);
+    }
+    Surveyed::Corrupt
+}
+
+// Are the records on chains as many as are in use?
+fn are_counted(sheet: &[u32], used: u32, free: u32) -> bool
+    requires { ⌜ 48 ≤ length (now sheet) ⌝ }
+    ensures { λ r. ⌜ r ≡ eqb (first-record + (used + free)) (word (now (sheet .entry)) next-unused) ⌝ }
+{
+    11 + (used as u64 + free as u64) == sheet[0] as u64
+}
+
+// The survey of a sheet for the lot number that is sought.
+pub fn survey(sheet: &[u32], sought: u32) -> Surveyed
+    requires { ⌜ (48 ≤ length (now sheet)) × (length (now sheet) ≤ 65536) ⌝ }
+    ensures { λ r. ⌜ r ≡ survey-of sought (read (now (sheet .entry))) ⌝ }
+{
+    if !is_header(sheet) {
+        return Surveyed::Corrupt;
+    }
+    let end = (4 + 5 * sheet[3]) as usize;
+    match lots(sheet, &sheet[4..end], sought) {
+        Surveyed::Corrupt => Surveyed::Corrupt,
+        Surveyed::Intact(f) => match free_chain(sheet) {
+            FreeChain::Cut => Surveyed::Corrupt,
+            FreeChain::Whole(free) => {
+                if !are_counted(sheet, f.used, free) {
+                    return Surveyed::Corrupt;
+                }
+                Surveyed::Intact(f)
+            }
+        },
+    }
+}
