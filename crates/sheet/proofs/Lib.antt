@@ -35,3 +35,5 @@ mod HeaderWords
 mod FreshOutcome
 mod Sizes
 mod Requires
+mod LocatedFacts
+mod CallSteps

@@ -47,7 +47,7 @@ one-total w Reject = omega arith
 
 -- a sheet of an allowed size that is not corrupt
 module _ (w : List ℕ) (s : Contents) (size : size-ok w ≡ true) (r : read w ≡ some s) where
-  holds : Holds first-record w s
+  pub holds : Holds first-record w s
   holds = reads first-record (omega arith) w s .0 r
 
   pub sized : Sized w
@@ -87,6 +87,9 @@ module _ (w : List ℕ) (s : Contents) (size : size-ok w ≡ true) (r : read w �
     on-chain : Found first-record w (word w next-unused) n (last-below n 0 (s .lots)) (s .lots) l
     on-chain = find-lot first-record (omega arith) w (word w next-unused) (s .lots) l (holds .lots) n e
 
+    pub lot-after-header : first-record ≤ l .at
+    lot-after-header = on-chain .here .low
+
     inside : In-words w (l .at)
     inside = omega (arith, on-chain .here .high, holds .room)
 
@@ -101,7 +104,7 @@ module _ (w : List ℕ) (s : Contents) (size : size-ok w ≡ true) (r : read w �
     pub can-strike : length (l .inspections) ≢ 0 → Striking w (l .at)
     can-strike some-inspection = record {
       freeing = freeing 1 (omega (arith, sized .long));
-      after-header = on-chain .here .low;
+      after-header = lot-after-header;
       inside = inside;
       some-inspection = go (l .inspections) (on-chain .inspections) some-inspection;
     }
@@ -121,7 +124,7 @@ module _ (w : List ℕ) (s : Contents) (size : size-ok w ≡ true) (r : read w �
     lot-is = rw (on-chain .here .numbered, chain-is)
 
     -- it has no more units than a complete sample
-    few-units : units (counts (history l)) ≤ 1000
+    pub few-units : units (counts (history l)) ≤ 1000
     few-units =
         let f = on-chain in
         let p = plan-words w in
@@ -143,7 +146,7 @@ module _ (w : List ℕ) (s : Contents) (size : size-ok w ≡ true) (r : read w �
     can-close more = record {
       freeing = rw (ap (λ (k : Lot). length (k .inspections)) lot-is) (freeing (length (l .inspections) + 1) few);
       fit = totals-fit more;
-      after-header = on-chain .here .low;
+      after-header = lot-after-header;
       inside = inside;
       front-after-header = front .low;
       before-inside = predecessor-in n;

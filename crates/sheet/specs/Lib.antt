@@ -6,6 +6,7 @@ pub mod Survey
 pub mod Reply
 pub mod Calls
 pub mod Writes
+pub mod Locating
 pub mod History
 pub mod Demand1
 pub mod Demand3

@@ -1,7 +1,9 @@
 // Chains of records: a lot's inspections, and the free records. Each record is tested before its words
 // are used, so that a damaged chain ends the walk.
-use crate::record::{field_of, record_at};
-use plan::{Answer, Counts};
+use crate::record::field_of;
+use crate::record::record_at;
+use plan::Answer;
+use plan::Counts;
 ghost use mathlib.Core.Path.{_≡_};
 ghost use mathlib.Core.Bool.{true};
 ghost use Prim.Native.Nat.{_≤_};

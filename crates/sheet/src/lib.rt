@@ -1,20 +1,33 @@
 // A sheet: many lots in inspection on one borrowed run of words. Document 01, "Sheet".
 mod chain;
+mod closing;
 mod freeing;
 mod fresh_sheet;
 mod granting;
 mod header;
+mod inspecting;
 mod layout;
+mod locating;
+mod looking;
+mod opening;
+mod progress;
 mod record;
 mod reply;
 mod size;
+mod striking;
 mod survey;
 mod totals;
 mod writing;
 
+pub use closing::close;
 pub use fresh_sheet::fresh;
+pub use inspecting::inspect;
+pub use looking::look;
+pub use looking::tally;
+pub use opening::open;
 pub use reply::Done;
 pub use reply::Looked;
 pub use reply::Shown;
 pub use reply::Tallied;
 pub use reply::Totals;
+pub use striking::strike;

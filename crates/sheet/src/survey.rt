@@ -1,5 +1,9 @@
 // One walk over a sheet: is it intact, and where is the lot of a number?
-use crate::chain::{Chain, FreeChain, free_chain, is_used, lot_inspections};
+use crate::chain::Chain;
+use crate::chain::FreeChain;
+use crate::chain::free_chain;
+use crate::chain::is_used;
+use crate::chain::lot_inspections;
 use crate::header::is_header;
 use crate::record::record_at;
 use plan::Counts;

@@ -9,7 +9,8 @@ use plan::Counts;
 ghost use mathlib.Core.Path.{_≡_};
 ghost use Prim.Native.Nat.{_+_, _≤_, _<_};
 ghost use lib.ListN.{length};
-ghost use Rattle.sheet.specs.Layout.{word};
+ghost use lib.Dec.{leb};
+ghost use Rattle.sheet.specs.Layout.{word, most-closed, closed-lots};
 ghost use Rattle.sheet.specs.Calls.{add-to, lots-total, add-totals};
 ghost use Rattle.sheet.specs.Writes.{largest, Totals-fit};
 
@@ -29,6 +30,14 @@ fn add_to(sheet: &mut [u32], i: usize, n: u32)
     ensures { λ _. ⌜ now (sheet .exit) ≡ add-to (now (sheet .entry)) i n ⌝ }
 {
     sheet[i] = sheet[i] + n;
+}
+
+// Are as many lots closed as the totals may count?
+pub fn are_full(sheet: &[u32]) -> bool
+    requires { ⌜ 48 ≤ length (now sheet) ⌝ }
+    ensures { λ r. ⌜ r ≡ leb most-closed (closed-lots (now (sheet .entry))) ⌝ }
+{
+    4000000 <= sheet[ACCEPTED_LOTS] as u64 + sheet[REJECTED_LOTS] as u64
 }
 
 // Counts a lot closed with this answer, and its units.

@@ -80,8 +80,12 @@ module _ (t : ℕ) where
   older-units c =
       let o = c .before .before .before in
       let a = o .before .before .before .before .before .before .before .before in
-      omega (arith, a .pre .1 .2, whole-units (a .args .sheet .now) (a .args .lot) (tested (stages (a .args .plan .now)) (o .before .next-test .result)) (a .args .serial - 1) (o .before .before .record-at .result .b)
-      (c .before .c .given .0 .0) (sym (o .inspections .ensures) ∙ c .before .c .given .1))
+      omega (
+        arith,
+        a .pre .1 .2,
+        whole-units (a .args .sheet .now) (a .args .lot) (tested (stages (a .args .plan .now)) (o .before .next-test .result)) (a .args .serial - 1) (o .before .before .record-at .result .b)
+            (c .before .c .given .0 .0) (sym (o .inspections .ensures) ∙ c .before .c .given .1),
+      )
 
   may-go-on-requires : lts.Need-may-go-on-requires (calls t) (given t) inspections.Post
   may-go-on-requires c κs = (c .before .before .before .before .before .before .before .before .before .before .before .pre .1 .1, older-units c)

@@ -77,8 +77,11 @@ lot-units c =
     let s = c .before .before .before .before .before .before .before .before .before .before .before .before .before .before .before in
     let l = c .before .before .before .before .before .before .before .before .before .loop in
     let r = c .before .before .before .before .record-at .result in
-    omega (arith, shape (s .args .plan .now) (s .pre .1) .thousand-units,
-    chain-units (s .args .sheet .now) (l .at) (s .args .plan .now) (s .pre .1) (serial-at (s .args .sheet .now) (r .c)) (r .c) (c .before .c .given .0 .0) (sym (c .before .before .before .lot-inspections .ensures) ∙ c .before .c .given .1))
+    omega (
+      arith,
+      shape (s .args .plan .now) (s .pre .1) .thousand-units,
+      chain-units (s .args .sheet .now) (l .at) (s .args .plan .now) (s .pre .1) (serial-at (s .args .sheet .now) (r .c)) (r .c) (c .before .c .given .0 .0) (sym (c .before .before .before .lot-inspections .ensures) ∙ c .before .c .given .1),
+    )
 
 with-lot-found-requires : tie.Need-with-lot-found-requires Inv-loop μ-loop
 with-lot-found-requires c κs =

@@ -1,0 +1,101 @@
+-- `sheet::inspect` meets its contract: the tests are in the order of the table. Assumes nothing.
+use mathlib.Core.Path.{_≡_, refl, sym, ap, _∙_}
+use borrow.Author.Needs.{needs}
+use borrow.Author.Tests.{not-true, not-false}
+use Rattle.sheet.specs.Read.{undecided}
+use Rattle.sheet.proofs.LocatedFacts.{With-lot, with-lot}
+use Rattle.sheet.proofs.CallSteps.{answer-requires, long, few, inspect-refused, inspect-class, inspect-decided, inspect-full, inspect-requires, inspect-granted}
+use Rattle.sheet.proofs.inspecting.inspect.Statement.{statement}
+use Rattle.sheet.proofs.inspecting.inspect.Tie as tie
+
+-- what is known once the lot is found
+facts : (c : tie.After-known-told2) → let x = c .before .before .before .before .before .before in With-lot (x .args .lot) (x .args .sheet .now) (c .before .f .given .0 .0)
+facts c =
+    let x = c .before .before .before .before .before .before in
+    let f = c .before .f .given in
+    with-lot (x .args .lot) (x .args .sheet .now) (f .0 .0) (sym (c .before .before .before .locate-lot .ensures) ∙ f .1)
+
+returns : tie.Need-returns
+returns c =
+    let k = c .before in
+    let x = k .before .before .before .before .before .before in
+    let f = k .before .f .given .0 .0 in
+    rw (inspect-class (x .args .lot) (x .args .class) (x .args .sheet .now) f (facts k) (c .if1 .taken)) (refl, refl)
+
+answer-to-requires : tie.Need-answer-to-requires
+answer-to-requires c κs =
+    let k = c .before .before in
+    let x = k .before .before .before .before .before .before in
+    let f = k .before .f .given .0 .0 in
+    answer-requires (x .args .lot) (x .args .sheet .now) f (facts k)
+
+returns-2 : tie.Need-returns-2
+returns-2 c =
+    let k = c .before .before .before .before .before in
+    let x = k .before .before .before .before .before .before in
+    let f = k .before .f .given .0 .0 in
+    rw (inspect-decided (x .args .lot) (x .args .class) (x .args .sheet .now) f (facts k) (c .before .before .before .before .if1 .left) (sym (ap undecided (c .before .before .answer-to .ensures)) ∙ sym (c .before .is-undecided .ensures) ∙ not-true _ (c .if2 .taken))) (refl, refl)
+
+is-full-requires : tie.Need-is-full-requires
+is-full-requires c κs =
+    let k = c .before .before .before .before .before .before in
+    let x = k .before .before .before .before .before .before in
+    let f = k .before .f .given .0 .0 in
+    long (x .args .lot) (x .args .sheet .now) f (facts k)
+
+returns-3 : tie.Need-returns-3
+returns-3 c =
+    let k = c .before .before .before .before .before .before .before .before in
+    let x = k .before .before .before .before .before .before in
+    let f = k .before .f .given .0 .0 in
+    rw (inspect-full (x .args .lot) (x .args .class) (x .args .sheet .now) f (facts k) (c .before .before .before .before .before .before .before .if1 .left) (sym (ap undecided (c .before .before .before .before .before .answer-to .ensures)) ∙ sym (c .before .before .before .before .is-undecided .ensures) ∙ not-false _ (c .before .before .before .if2 .left)) (sym (c .before .is-full .ensures) ∙ c .if3 .taken)) (refl, refl)
+
+units-of-requires : tie.Need-units-of-requires
+units-of-requires c κs =
+    let k = c .before .before .before .before .before .before .before .before .before in
+    let x = k .before .before .before .before .before .before in
+    let f = k .before .f .given .0 .0 in
+    few (x .args .lot) (x .args .sheet .now) f (facts k)
+
+add-inspection-requires : tie.Need-add-inspection-requires
+add-inspection-requires c κs =
+    let k = c .before .before .before .before .before .before .before .before .before .before in
+    let x = k .before .before .before .before .before .before in
+    let f = k .before .f .given .0 .0 in
+    rw (c .units-of .ensures) (inspect-requires (x .args .lot) (x .args .class) (x .args .sheet .now) f (facts k) (sym (c .before .before .before .is-full .ensures) ∙ c .before .before .if3 .left))
+
+returns-4 : tie.Need-returns-4
+returns-4 c =
+    let x = c .before .before .before .before .before .before in
+    let n = c .before .n .given in
+    rw (inspect-refused (x .args .lot) (x .args .class) (x .args .sheet .now) (n .0 .0) (sym (c .before .before .before .locate-lot .ensures) ∙ n .1)) (refl, refl)
+
+returns-5 : tie.Need-returns-5
+returns-5 c =
+    let k = c .before .before .before .before .before .before .before .before .before .before .before .before .before in
+    let x = k .before .before .before .before .before .before in
+    let f = k .before .f .given .0 .0 in
+    rw (inspect-granted (x .args .lot) (x .args .class) (x .args .sheet .now) f (facts k) (c .before .before .before .before .before .before .before .before .before .before .before .before .if1 .left) (sym (ap undecided (c .before .before .before .before .before .before .before .before .before .before .answer-to .ensures)) ∙ sym (c .before .before .before .before .before .before .before .before .before .is-undecided .ensures) ∙ not-false _ (c .before .before .before .before .before .before .before .before .if2 .left)) (sym (c .before .before .before .before .before .before .is-full .ensures) ∙ c .before .before .before .before .before .if3 .left)) (refl, rw (c .before .before .before .units-of .ensures) at (c .before .before .add-inspection .ensures))
+
+pub inspect-spec : {M : Type 1} → statement M
+inspect-spec =
+    tie.close
+    (tie.spec
+    (λ c κs. search needs)
+    (λ c. search needs)
+    (λ c. search needs)
+    (λ c. search needs)
+    returns
+    answer-to-requires
+    (λ c κs. search needs)
+    (λ c. search needs)
+    returns-2
+    is-full-requires
+    (λ c. search needs)
+    returns-3
+    units-of-requires
+    add-inspection-requires
+    (λ c. search needs)
+    returns-4
+    (λ c. search needs)
+    returns-5)

@@ -1,0 +1,48 @@
+-- `sheet::locate` meets its contract: the size, then the survey. Assumes nothing.
+use mathlib.Core.Path.{_≡_, sym, _∙_}
+use mathlib.Core.Bool.{true}
+use borrow.Author.Needs.{needs}
+use borrow.Author.Tests.{not-true, not-false}
+use Rattle.sheet.specs.Layout.{size-ok}
+use Rattle.sheet.proofs.Sizes.{long-enough, short-enough}
+use Rattle.sheet.proofs.LocatedFacts.{wrong-size, corrupt, intact}
+use Rattle.sheet.proofs.locating.locate.Statement.{statement}
+use Rattle.sheet.proofs.locating.locate.Tie as tie
+
+returns : tie.Need-returns
+returns c =
+    let a = c .before .before .before .args in
+    sym (wrong-size (a .lot) (a .sheet .now) (sym (c .before .size-ok .ensures) ∙ not-true _ (c .if1 .taken)))
+
+size-is : (c : tie.Else1) → size-ok (c .before .before .before .args .sheet .now) ≡ true
+size-is c = sym (c .before .size-ok .ensures) ∙ not-false _ (c .if1 .left)
+
+survey-requires : tie.Need-survey-requires
+survey-requires c κs =
+    let w = c .before .before .before .args .sheet .now in
+    (long-enough w (size-is c), short-enough w (size-is c))
+
+returns-2 : tie.Need-returns-2
+returns-2 c =
+    let s = c .before .before in
+    let a = s .before .before .before .before .args in
+    sym (corrupt (a .lot) (a .sheet .now) (size-is (s .before)) (sym (s .survey .ensures) ∙ c .enum-told .given .1))
+
+returns-3 : tie.Need-returns-3
+returns-3 c =
+    let s = c .before .before .before in
+    let f = c .before .f .given in
+    let a = s .before .before .before .before .args in
+    sym (intact (a .lot) (a .sheet .now) (f .0 .0) (size-is (s .before)) (sym (s .survey .ensures) ∙ f .1))
+
+pub locate-spec : {M : Type 1} → statement M
+locate-spec =
+    tie.close
+    (tie.spec
+    (λ c κs. search needs)
+    returns
+    survey-requires
+    (λ c. search needs)
+    (λ c. search needs)
+    returns-2
+    returns-3)

@@ -1,0 +1,33 @@
+// The call inspect: one unit more of a lot, of this class. Document 01, "Sheet" and "Refused".
+use crate::granting::is_full;
+use crate::locating::Located;
+use crate::locating::locate_lot;
+use crate::progress::answer_to;
+use crate::progress::is_undecided;
+use crate::progress::units_of;
+use crate::reply::Done;
+use crate::writing::add_inspection;
+ghost use mathlib.Core.Path.{_≡_};
+ghost use Rattle.sheet.specs.Calls.{inspect};
+
+pub fn inspect(sheet: &mut [u32], lot: u32, class: u32) -> Done
+    ensures { λ r. ⌜ r ≡ inspect lot class (now (sheet .entry)) .reply ⌝ }
+    ensures { λ _. ⌜ now (sheet .exit) ≡ inspect lot class (now (sheet .entry)) .words ⌝ }
+{
+    match locate_lot(sheet, lot) {
+        Located::Refused(n) => Done::Refused(n),
+        Located::At(f) => {
+            if 2 < class {
+                return Done::Refused(7);
+            }
+            if !is_undecided(answer_to(sheet, f.counts)) {
+                return Done::Refused(8);
+            }
+            if is_full(sheet) {
+                return Done::Refused(11);
+            }
+            add_inspection(sheet, f.at, units_of(f.counts), class);
+            Done::Ok
+        }
+    }
+}

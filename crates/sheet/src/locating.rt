@@ -1,0 +1,44 @@
+// The first rows of the table for calls on a sheet: its size, its contents, and the lot of a number.
+use crate::size::size_ok;
+use crate::survey::Found;
+use crate::survey::Surveyed;
+use crate::survey::survey;
+ghost use mathlib.Core.Path.{_≡_};
+ghost use mathlib.Core.List.{[], _∷_};
+ghost use mathlib.Core.Bool.{not};
+ghost use Rattle.sheet.specs.Calls.{row, on-sheet};
+ghost use Rattle.sheet.specs.Locating.{located};
+
+// Refused, or what is found for the number.
+pub enum Located {
+    Refused(u32),
+    At(Found),
+}
+
+// Rows 1 and 3.
+pub fn locate(sheet: &[u32], lot: u32) -> Located
+    ensures { λ r. ⌜ r ≡ located lot (now (sheet .entry)) [] ⌝ }
+{
+    if !size_ok(sheet) {
+        return Located::Refused(1);
+    }
+    match survey(sheet, lot) {
+        Surveyed::Corrupt => Located::Refused(3),
+        Surveyed::Intact(f) => Located::At(f),
+    }
+}
+
+// Rows 1, 3 and 6.
+pub fn locate_lot(sheet: &[u32], lot: u32) -> Located
+    ensures { λ r. ⌜ r ≡ located lot (now (sheet .entry)) (row 6 (not (on-sheet lot (now (sheet .entry)))) ∷ []) ⌝ }
+{
+    match locate(sheet, lot) {
+        Located::Refused(n) => Located::Refused(n),
+        Located::At(f) => {
+            if f.at == 0 {
+                return Located::Refused(6);
+            }
+            Located::At(f)
+        }
+    }
+}

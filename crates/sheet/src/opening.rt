@@ -1,0 +1,30 @@
+// The call open: a new lot of this number. Document 01, "Sheet" and "Refused".
+use crate::granting::is_full;
+use crate::locating::Located;
+use crate::locating::locate;
+use crate::reply::Done;
+use crate::writing::add_lot;
+ghost use mathlib.Core.Path.{_≡_};
+ghost use Rattle.sheet.specs.Calls.{open-lot};
+
+pub fn open(sheet: &mut [u32], lot: u32) -> Done
+    ensures { λ r. ⌜ r ≡ open-lot lot (now (sheet .entry)) .reply ⌝ }
+    ensures { λ _. ⌜ now (sheet .exit) ≡ open-lot lot (now (sheet .entry)) .words ⌝ }
+{
+    match locate(sheet, lot) {
+        Located::Refused(n) => Done::Refused(n),
+        Located::At(f) => {
+            if lot == 0 {
+                return Done::Refused(4);
+            }
+            if f.at != 0 {
+                return Done::Refused(5);
+            }
+            if is_full(sheet) {
+                return Done::Refused(11);
+            }
+            add_lot(sheet, lot, f.before);
+            Done::Ok
+        }
+    }
+}

@@ -1,0 +1,37 @@
+// Where a lot stands, by its units and the plan of its sheet.
+use plan::Answer;
+use plan::Counts;
+ghost use mathlib.Core.Path.{_≡_};
+ghost use mathlib.Core.Bool.{true};
+ghost use Prim.Native.Nat.{_≤_};
+ghost use lib.ListN.{length};
+ghost use Rattle.plan.specs.Plan.{stages, admitted};
+ghost use Rattle.plan.specs.Counts.{units};
+ghost use Rattle.plan.specs.Stopping.{earliest};
+ghost use Rattle.sheet.specs.Layout.{plan-words};
+ghost use Rattle.sheet.specs.Read.{undecided};
+
+pub fn units_of(c: Counts) -> u32
+    requires { ⌜ units c ≤ 1000 ⌝ }
+    ensures { λ r. ⌜ r ≡ units c ⌝ }
+{
+    c.good + c.marginal + c.bad
+}
+
+pub fn answer_to(sheet: &[u32], c: Counts) -> Answer
+    requires { ⌜ (48 ≤ length (now sheet)) × (admitted (plan-words (now sheet)) ≡ true) × (units c ≤ 1000) ⌝ }
+    ensures { λ r. ⌜ r ≡ earliest (stages (plan-words (now (sheet .entry)))) c ⌝ }
+{
+    let end = (4 + 5 * sheet[3]) as usize;
+    plan::earliest(&sheet[4..end], c)
+}
+
+pub fn is_undecided(answer: Answer) -> bool
+    ensures { λ r. ⌜ r ≡ undecided answer ⌝ }
+{
+    match answer {
+        Answer::GoOn => true,
+        Answer::Accept => false,
+        Answer::Reject => false,
+    }
+}
