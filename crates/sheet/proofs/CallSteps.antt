@@ -30,7 +30,7 @@ use Rattle.sheet.specs.Survey.{found}
 use Rattle.sheet.specs.Locating.{found-on, located}
 use Rattle.sheet.proofs.HistoryLaws.{length-classes}
 use Rattle.sheet.proofs.Sizes.{long-enough}
-use Rattle.sheet.proofs.Requires.{holds, can-open, can-inspect, can-strike, lot-is, can-close, few-units}
+use Rattle.sheet.proofs.Requires.{holds, inside, can-open, can-inspect, can-strike, lot-is, can-close, few-units}
 use Rattle.sheet.proofs.LocatedFacts.{Whole, With-lot, refused-by, absent, present}
 
 abbrev refusal : List ℕ → ℕ → Outcome Done
@@ -80,13 +80,13 @@ module _ (n : ℕ) (w : List ℕ) where
 -- ---- the calls on a lot
 
 module _ (n : ℕ) (w : List ℕ) (f : Found) (k : With-lot n w f) where
-  at-is : f .at ≡ k .lot .at
+  pub at-is : f .at ≡ k .lot .at
   at-is = ap (λ (g : Found). g .at) (k .is)
 
   lot-before-is : f .before ≡ predecessor n w
   lot-before-is = rw (k .reads) (ap (λ (g : Found). g .before) (k .is))
 
-  counts-are : f .counts ≡ counts (history (k .lot))
+  pub counts-are : f .counts ≡ counts (history (k .lot))
   counts-are = ap (λ (g : Found). g .counts) (k .is)
 
   units-are : units (f .counts) ≡ length (k .lot .inspections)
@@ -95,13 +95,16 @@ module _ (n : ℕ) (w : List ℕ) (f : Found) (k : With-lot n w f) where
   pub long : 48 ≤ length w
   long = long-enough w (k .size)
 
+  pub lot-inside : In-words w (f .at)
+  lot-inside = rw (at-is) (inside w (k .contents) (k .size) (k .reads) n (k .lot) (k .finds))
+
   pub few : units (f .counts) ≤ 1000
   few = rw counts-are (few-units w (k .contents) (k .size) (k .reads) n (k .lot) (k .finds))
 
   pub answer-requires : (48 ≤ length w) × (admitted (plan-words w) ≡ true) × (units (f .counts) ≤ 1000)
   answer-requires = (long, holds w (k .contents) (k .size) (k .reads) .plan, few)
 
-  answer-is : lot-answer w (k .lot) ≡ earliest (stages (plan-words w)) (f .counts)
+  pub answer-is : lot-answer w (k .lot) ≡ earliest (stages (plan-words w)) (f .counts)
   answer-is = ap (earliest (stages (plan-words w))) (sym counts-are)
 
 -- ---- inspect

@@ -37,3 +37,4 @@ mod Sizes
 mod Requires
 mod LocatedFacts
 mod CallSteps
+mod EstimateSteps

@@ -84,13 +84,13 @@ module _ (w : List ℕ) (s : Contents) (size : size-ok w ≡ true) (r : read w �
 
   -- the lot that n finds
   module _ (n : ℕ) (l : Lot) (e : find n (s .lots) ≡ some l) where
-    on-chain : Found first-record w (word w next-unused) n (last-below n 0 (s .lots)) (s .lots) l
+    pub on-chain : Found first-record w (word w next-unused) n (last-below n 0 (s .lots)) (s .lots) l
     on-chain = find-lot first-record (omega arith) w (word w next-unused) (s .lots) l (holds .lots) n e
 
     pub lot-after-header : first-record ≤ l .at
     lot-after-header = on-chain .here .low
 
-    inside : In-words w (l .at)
+    pub inside : In-words w (l .at)
     inside = omega (arith, on-chain .here .high, holds .room)
 
     few : length (l .inspections) + 1 ≤ length w

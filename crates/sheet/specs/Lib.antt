@@ -8,6 +8,7 @@ pub mod Calls
 pub mod Writes
 pub mod Locating
 pub mod History
+pub mod Estimate
 pub mod Demand1
 pub mod Demand3
 pub mod Corollaries

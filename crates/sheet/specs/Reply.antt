@@ -6,6 +6,8 @@ use Rattle.sheet.specs.declared.reply.Done.{Done}
 use Rattle.sheet.specs.declared.reply.Done.the-variants as done
 use Rattle.sheet.specs.declared.reply.Looked.{Looked}
 use Rattle.sheet.specs.declared.reply.Looked.the-variants as looked
+use Rattle.sheet.specs.declared.reply.Estimated.{Estimated}
+use Rattle.sheet.specs.declared.reply.Estimated.the-variants as estimated
 use Rattle.sheet.specs.declared.reply.Tallied.{Tallied}
 use Rattle.sheet.specs.declared.reply.Tallied.the-variants as tallied
 
@@ -25,3 +27,7 @@ look-reply (looked.Refused n) = refused n
 abbrev pub tally-reply : Tallied → Reply
 tally-reply (tallied.Totals t) = granted (t .accepted ∷ t .rejected ∷ t .good ∷ t .marginal ∷ t .bad ∷ [])
 tally-reply (tallied.Refused n) = refused n
+
+abbrev pub estimate-reply : Estimated → Reply
+estimate-reply (estimated.Estimate e) = granted (e .good ∷ e .marginal ∷ e .bad ∷ e .over ∷ [])
+estimate-reply (estimated.Refused n) = refused n

@@ -1,6 +1,7 @@
 // A sheet: many lots in inspection on one borrowed run of words. Document 01, "Sheet".
 mod chain;
 mod closing;
+mod estimating;
 mod freeing;
 mod fresh_sheet;
 mod granting;
@@ -20,12 +21,15 @@ mod totals;
 mod writing;
 
 pub use closing::close;
+pub use estimating::estimate;
 pub use fresh_sheet::fresh;
 pub use inspecting::inspect;
 pub use looking::look;
 pub use looking::tally;
 pub use opening::open;
 pub use reply::Done;
+pub use reply::Estimate;
+pub use reply::Estimated;
 pub use reply::Looked;
 pub use reply::Shown;
 pub use reply::Tallied;

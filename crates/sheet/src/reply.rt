@@ -34,3 +34,16 @@ pub enum Tallied {
     Totals(Totals),
     Refused(u32),
 }
+
+// Of each class, the units before the last, and how many these are.
+pub struct Estimate {
+    pub good: u64,
+    pub marginal: u64,
+    pub bad: u64,
+    pub over: u64,
+}
+
+pub enum Estimated {
+    Estimate(Estimate),
+    Refused(u32),
+}

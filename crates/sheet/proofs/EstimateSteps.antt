@@ -1,0 +1,125 @@
+-- What estimate replies, by what its code has tested: a decided lot has a newest unit, and its counts without that unit are
+-- those of the units before the last. Assumes nothing.
+use Prim.Native.Nat.{ℕ, zero, suc, _+_, _-_, _*_, _≤_, _<_}
+use mathlib.Core.Path.{_≡_, refl, sym, ap, _∙_}
+use mathlib.Core.Bool.{true, false, true≢false, not}
+use mathlib.Core.List.{List, [], _∷_, _++_}
+use native.Mathlib.Omega.{arith}
+use lib.ListN.{length, drop, length-take, length-drop}
+use lib.Dec.{ltb}
+use borrow.Author.Tests.{lt-ltb, le-ltb, ne-eqb}
+use Rattle.plan.specs.declared.counts.Counts.{Counts}
+use Rattle.plan.specs.Plan.{stages}
+use Rattle.plan.specs.Counts.{counts, units, add-units}
+use Rattle.plan.specs.Stopping.{earliest}
+use Rattle.plan.proofs.Promise.{shape, promise, counting}
+use Rattle.sheet.specs.declared.reply.Estimate.{Estimate}
+use Rattle.sheet.specs.declared.reply.Estimated.the-variants as estimated
+use Rattle.sheet.specs.declared.survey.Found.{Found}
+use Rattle.sheet.specs.declared.locating.Located.the-variants.{Refused}
+use Rattle.sheet.specs.Layout.{size-ok, word, field, newest, next-unused, stage-count, first-record, plan-start, plan-words}
+use Rattle.sheet.specs.Contents.{Inspection, classes, history}
+use Rattle.sheet.specs.Holds.{Inspections}
+use Rattle.sheet.specs.Read.{undecided}
+use Rattle.sheet.specs.Calls.{row, corrupt, on-sheet, lot, lot-answer}
+use Rattle.sheet.specs.History.{without-last}
+use Rattle.sheet.specs.Estimate.{estimate-of, estimate-rows, estimate, units-of-class, without-unit}
+use Rattle.sheet.specs.Writes.{In-words}
+use Rattle.sheet.specs.Locating.{found-on, located}
+use Rattle.sheet.proofs.HistoryLaws.{classes-cons, length-classes, without-last-snoc}
+use Rattle.sheet.proofs.Sizes.{long-enough}
+use Rattle.sheet.proofs.HeaderSteps.{few-stages}
+use Rattle.sheet.proofs.Requires.{holds, on-chain}
+use Rattle.sheet.proofs.LocatedFacts.{With-lot, refused-by}
+use Rattle.sheet.proofs.CallSteps.{at-is, counts-are, few, answer-is}
+
+-- a unit added can be taken away
+pub some-unit : (x : ℕ) (d : Counts) → 1 ≤ units-of-class x (add-units x 1 d)
+some-unit zero d = rw (counting .good 1 d) (omega arith)
+some-unit (suc zero) d = rw (counting .marginal 1 1 d (λ e. omega arith) (λ e. omega arith)) (omega arith)
+some-unit (suc (suc zero)) d = rw (counting .bad 1 d) (omega arith)
+some-unit (suc (suc (suc x))) d =
+    let n : ℕ = suc (suc (suc x)) in
+    rw (counting .marginal n 1 d (λ e. omega arith) (λ e. omega arith), ne-eqb n 0 (λ e. omega arith), ne-eqb n 2 (λ e. omega arith)) (omega arith)
+
+one-less : (n : ℕ) → n + 1 - 1 ≡ n
+one-less n = omega arith
+
+pub unit-taken : (x : ℕ) (d : Counts) → without-unit x (add-units x 1 d) ≡ d
+unit-taken zero d = rw (counting .good 1 d, one-less (d .good))
+unit-taken (suc zero) d = rw (counting .marginal 1 1 d (λ e. omega arith) (λ e. omega arith), one-less (d .marginal))
+unit-taken (suc (suc zero)) d = rw (counting .bad 1 d, one-less (d .bad))
+unit-taken (suc (suc (suc x))) d =
+    let n : ℕ = suc (suc (suc x)) in
+    rw (counting .marginal n 1 d (λ e. omega arith) (λ e. omega arith), ne-eqb n 0 (λ e. omega arith), ne-eqb n 2 (λ e. omega arith), one-less (d .marginal))
+
+-- the newest unit of a lot, with the history h
+pub record Newest (w : List ℕ) (f : Found) (h : List ℕ) : Type 0 where
+  pub inside : In-words w (newest w (f .at))
+  pub counted : f .counts ≡ add-units (field w (newest w (f .at)) 0) 1 (counts (without-last h))
+  pub number : units (counts (without-last h)) ≡ length h - 1
+
+module _ (n : ℕ) (w : List ℕ) where
+  pub estimate-refused : (r : ℕ) → located n w (row 6 (not (on-sheet n w)) ∷ []) ≡ Refused r → estimate n w ≡ record { reply = estimated.Refused r; words = w }
+  unfolding estimate estimate-rows
+  estimate-refused r e =
+      refused-by (λ m. record { reply = estimated.Refused m; words = w })
+      (record { reply = estimated.Estimate (estimate-of (stages (plan-words w)) (history (lot n w))); words = w })
+      (row 10 (undecided (lot-answer w (lot n w))) ∷ row 15 (ltb 1 (length (stages (plan-words w)))) ∷ [])
+      (found-on n w) r (row 1 (not (size-ok w)) ∷ row 3 (corrupt w) ∷ row 6 (not (on-sheet n w)) ∷ []) e
+
+  module _ (f : Found) (k : With-lot n w f) where
+    stages-are : length (stages (plan-words w)) ≡ word w stage-count
+    stages-are =
+        let long = long-enough w (k .size) in
+        let plan = holds w (k .contents) (k .size) (k .reads) .plan in
+        let s = shape (plan-words w) plan in
+        omega (arith, s .whole, few-stages w long plan, length-take (5 * word w stage-count) (drop plan-start w), length-drop plan-start w)
+
+    pub estimate-undecided : undecided (earliest (stages (plan-words w)) (f .counts)) ≡ true → estimate n w ≡ record { reply = estimated.Refused 10; words = w }
+    unfolding estimate estimate-rows
+    estimate-undecided u = rw (k .size, k .reads, k .finds, answer-is n w f k, u)
+
+    module _ (u : undecided (earliest (stages (plan-words w)) (f .counts)) ≡ false) where
+      pub estimate-stages : 1 < word w stage-count → estimate n w ≡ record { reply = estimated.Refused 15; words = w }
+      unfolding estimate estimate-rows
+      estimate-stages h = rw (k .size, k .reads, k .finds, answer-is n w f k, u, stages-are, lt-ltb 1 (word w stage-count) h)
+
+      newest-at : (is : List Inspection) → Inspections first-record w (word w next-unused) (k .lot .at) is (newest w (k .lot .at)) → f .counts ≡ counts (classes is) → Newest w f (classes is)
+      newest-at [] h e =
+          let empty = promise (plan-words w) (holds w (k .contents) (k .size) (k .reads) .plan) .empty in
+          let z : true ≡ false = rw (e ∙ counting .empty, empty) at u in
+          absurd (true≢false z)
+      newest-at (i ∷ is) h e =
+          let x = h .0 in
+          let newest-is : newest w (f .at) ≡ i .at = ap (newest w) (at-is n w f k) ∙ x .here in
+          let before : without-last (classes (i ∷ is)) ≡ classes is = ap without-last (classes-cons i is) ∙ without-last-snoc (classes is) (i .class) in
+          let more : counts (classes (i ∷ is)) ≡ add-units (i .class) 1 (counts (classes is)) = ap counts (classes-cons i is) ∙ counting .one-more (classes is) (i .class) in
+          record {
+            inside = omega (arith, newest-is, x .high, holds w (k .contents) (k .size) (k .reads) .room);
+            counted = rw (newest-is, x .class, before) (e ∙ more);
+            number = rw before (omega (arith, counting .length-of (classes is), length-classes is, length-classes (i ∷ is)));
+          }
+
+      pub newest-unit : Newest w f (history (k .lot))
+      newest-unit = newest-at (k .lot .inspections) (on-chain w (k .contents) (k .size) (k .reads) n (k .lot) (k .finds) .inspections) (counts-are n w f k)
+
+      pub older-are : without-unit (field w (newest w (f .at)) 0) (f .counts) ≡ counts (without-last (history (k .lot)))
+      older-are =
+          let x = newest-unit in
+          ap (without-unit (field w (newest w (f .at)) 0)) (x .counted) ∙ unit-taken (field w (newest w (f .at)) 0) (counts (without-last (history (k .lot))))
+
+      pub older-few : units (without-unit (field w (newest w (f .at)) 0) (f .counts)) ≤ 1000
+      older-few = rw older-are (omega (arith, newest-unit .number, few n w f k, ap units (counts-are n w f k), counting .length-of (history (k .lot))))
+
+      pub estimate-requires : 1 ≤ units-of-class (field w (newest w (f .at)) 0) (f .counts)
+      estimate-requires =
+          let x = newest-unit in
+          rw (x .counted) (some-unit (field w (newest w (f .at)) 0) (counts (without-last (history (k .lot)))))
+
+      pub estimate-granted : word w stage-count ≤ 1 → (c : Counts) → c ≡ without-unit (field w (newest w (f .at)) 0) (f .counts) →
+          estimate n w ≡ record { reply = estimated.Estimate (record { good = c .good; marginal = c .marginal; bad = c .bad; over = units c }); words = w }
+      unfolding estimate estimate-rows
+      estimate-granted h c e =
+          let same : estimate-of (stages (plan-words w)) (history (k .lot)) ≡ record { good = c .good; marginal = c .marginal; bad = c .bad; over = units c } = rw (e ∙ older-are, newest-unit .number) in
+          rw (k .size, k .reads, k .finds, answer-is n w f k, u, stages-are, le-ltb 1 (word w stage-count) h) (ap (λ (x : Estimate). record { reply = estimated.Estimate x; words = w }) same)
