@@ -1,16 +1,14 @@
 -- What open, inspect, strike, close, look and tally reply and leave, by what their code has tested, and what the functions
 -- that write require there. Assumes nothing.
-use Prim.Native.Nat.{ℕ, _+_, _≤_, _<_}
+use Prim.Native.Nat.{ℕ, _≤_, _<_}
 use mathlib.Core.Path.{_≡_, refl, sym, ap, _∙_}
 use mathlib.Core.Logic.{_≢_}
 use mathlib.Core.Bool.{true, false, not}
 use mathlib.Core.Option.{Option, none, some}
 use mathlib.Core.List.{List, [], _∷_}
-use native.Mathlib.Omega.{arith}
 use lib.ListN.{length}
 use lib.Dec.{leb, ltb, eqb}
 use borrow.Author.Tests.{lt-ltb, le-ltb, eq-eqb, ne-eqb, leb-false}
-use Rattle.plan.specs.declared.counts.Counts.{Counts}
 use Rattle.plan.specs.Plan.{stages, admitted}
 use Rattle.plan.specs.Counts.{counts, units}
 use Rattle.plan.specs.Stopping.{earliest}
@@ -20,7 +18,7 @@ use Rattle.sheet.specs.declared.reply.Done.the-variants as done
 use Rattle.sheet.specs.declared.reply.Looked.the-variants as looked
 use Rattle.sheet.specs.declared.reply.Tallied.the-variants as tallied
 use Rattle.sheet.specs.declared.survey.Found.{Found}
-use Rattle.sheet.specs.declared.locating.Located.the-variants.{Refused, At}
+use Rattle.sheet.specs.declared.locating.Located.the-variants.{Refused}
 use Rattle.sheet.specs.Layout.{size-ok, newest, plan-words, totals, closed-lots, highest-class, most-closed}
 use Rattle.sheet.specs.Contents.{Lot, history, find, records-of}
 use Rattle.sheet.specs.Read.{undecided}

@@ -6,10 +6,8 @@ use mathlib.Core.Option.{Option, none, some}
 use mathlib.Core.List.{List, [], _∷_}
 use native.Mathlib.Omega.{arith}
 use native.Mathlib.Decide.{decLt}
-use lib.ListN.{length}
 use lib.Dec.{eqb}
 use borrow.Author.Tests.{eq-eqb, ne-eqb}
-use Rattle.sheet.specs.declared.chain.FreeChain.{FreeChain}
 use Rattle.sheet.specs.declared.chain.FreeChain.the-variants.{Cut, Whole}
 use Rattle.sheet.specs.Layout.{word, field, next, first-free, first-record}
 use Rattle.sheet.specs.Read.{guard, then, in-use, depth, read-free}

@@ -1,18 +1,15 @@
 -- The header's tests, as the code makes them. Assumes nothing.
-use Prim.Native.Nat.{ℕ, zero, suc, _+_, _-_, _*_, _/_, _≤_, _<_}
+use Prim.Native.Nat.{ℕ, zero, suc, _+_, _-_, _*_, _≤_, _<_}
 use mathlib.Core.Path.{_≡_, refl, sym, ap, _∙_}
-use mathlib.Core.Bool.{Bool, true, false, true≢false, _&&_}
+use mathlib.Core.Bool.{Bool, true, false, true≢false}
 use native.Mathlib.Decide.{decLt}
 use mathlib.Core.List.{List, [], _∷_}
 use native.Mathlib.Omega.{arith}
 use lib.ListN.{length, take, drop, length-take, length-drop}
 use lib.Seq.{drop-drop}
-use borrow.Author.Tests.{le-leb, lt-leb}
-use Rattle.plan.specs.Plan.{stages, admitted}
+use Rattle.plan.specs.Plan.{admitted}
 use Rattle.plan.proofs.Promise.{shape}
-use Rattle.sheet.specs.Layout.{word, stage-count, next-unused, plan-start, plan-room, plan-words, unused-stages, records, first-record}
-use Rattle.sheet.specs.Read.{all-zero, header-ok}
-use Rattle.sheet.specs.Survey.{are-totals}
+use Rattle.sheet.specs.Layout.{word, stage-count, plan-start, plan-room, plan-words, unused-stages}
 
 take-nil : (n : ℕ) → take {A = ℕ} n [] ≡ []
 take-nil zero = refl

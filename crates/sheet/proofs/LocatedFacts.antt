@@ -1,21 +1,18 @@
 -- What a call knows of a sheet behind the first rows of the table: the sheet's contents, and the lot of a number. Assumes nothing.
-use Prim.Native.Nat.{ℕ, _≤_}
-use mathlib.Core.Path.{_≡_, refl, sym, ap, _∙_}
+use Prim.Native.Nat.{ℕ}
+use mathlib.Core.Path.{_≡_, refl, sym, ap}
 use mathlib.Core.Logic.{_≢_}
 use mathlib.Core.Bool.{Bool, true, false, cond, not}
 use mathlib.Core.Option.{Option, none, some}
 use mathlib.Core.List.{List, [], _∷_, _++_}
 use native.Mathlib.Omega.{arith}
 use borrow.Author.Tests.{not-false}
-use Rattle.plan.specs.declared.counts.Counts.{Counts}
-use Rattle.plan.specs.Counts.{counts}
 use Rattle.plan.specs.Refusal.{Refusal, first-refusal}
 use Rattle.sheet.specs.declared.survey.Found.{Found}
 use Rattle.sheet.specs.declared.survey.Surveyed.the-variants.{Corrupt, Intact}
-use Rattle.sheet.specs.declared.locating.Located.{Located}
 use Rattle.sheet.specs.declared.locating.Located.the-variants.{Refused, At}
 use Rattle.sheet.specs.Layout.{size-ok}
-use Rattle.sheet.specs.Contents.{Lot, Contents, history, find, records-of}
+use Rattle.sheet.specs.Contents.{Lot, Contents, find, records-of}
 use Rattle.sheet.specs.Read.{read}
 use Rattle.sheet.specs.Calls.{is-some, row, on-sheet, last-below}
 use Rattle.sheet.specs.Survey.{found, survey-of}

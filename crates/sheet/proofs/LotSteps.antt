@@ -1,13 +1,12 @@
 -- One step along the chain of lots, as the code takes it, and a lot's whole chain of inspections. Assumes nothing.
-use Prim.Native.Nat.{ℕ, zero, suc, _+_, _-_, _≤_, _<_}
+use Prim.Native.Nat.{ℕ, zero, suc, _-_, _≤_, _<_}
 use mathlib.Core.Path.{_≡_, refl, sym, ap, _∙_}
-use mathlib.Core.Bool.{Bool, true, false, cond, _&&_}
+use mathlib.Core.Bool.{Bool, true, false, cond}
 use mathlib.Core.Option.{Option, none, some}
-use mathlib.Core.List.{List, [], _∷_}
+use mathlib.Core.List.{List, _∷_}
 use native.Mathlib.Omega.{arith}
 use native.Mathlib.Decide.{decLt}
 use lib.ListN.{length}
-use lib.Dec.{leb, ltb, eqb}
 use borrow.Author.Tests.{eq-eqb, ne-eqb}
 use Rattle.plan.specs.declared.counts.Counts.{Counts}
 use Rattle.plan.specs.Plan.{Stage, stages, total, admitted}
@@ -21,7 +20,7 @@ use Rattle.sheet.specs.declared.survey.Surveyed.{Surveyed}
 use Rattle.sheet.specs.declared.survey.Surveyed.the-variants.{Corrupt, Intact}
 use Rattle.sheet.specs.Layout.{word, field, next, newest, next-unused, first-record}
 use Rattle.sheet.specs.Contents.{Inspection, Lot, classes}
-use Rattle.sheet.specs.Read.{guard, then, in-use, serial-at, read-inspections, read-lots, undecided-before, all-undecided-before}
+use Rattle.sheet.specs.Read.{guard, then, in-use, serial-at, read-inspections, read-lots, undecided-before}
 use Rattle.sheet.specs.Survey.{record-at, is-lot, tested, chain-of, with-lot-found, lots-survey}
 use Rattle.sheet.proofs.HistoryLaws.{length-classes, fact}
 use Rattle.sheet.proofs.Reading.{sound-inspections}

@@ -10,7 +10,6 @@ use native.Mathlib.Decide.{decLt}
 use lib.ListN.{length}
 use lib.Dec.{eqb}
 use borrow.Author.Tests.{lt-ltb, le-ltb, eq-eqb, ne-eqb}
-use Rattle.plan.specs.declared.counts.Counts.{Counts}
 use Rattle.plan.specs.Plan.{Stage, stages}
 use Rattle.plan.specs.Counts.{units, no-units, counts}
 use Rattle.plan.proofs.Promise.{counting}
@@ -20,11 +19,11 @@ use Rattle.sheet.specs.declared.survey.Found.{Found}
 use Rattle.sheet.specs.declared.survey.Surveyed.{Surveyed}
 use Rattle.sheet.specs.declared.survey.Surveyed.the-variants.{Corrupt, Intact}
 use Rattle.sheet.specs.Layout.{word, records, next-unused, first-lot, first-free, first-record, plan-words}
-use Rattle.sheet.specs.Contents.{Lot, Contents, history, records-of, find}
+use Rattle.sheet.specs.Contents.{Lot, history, records-of, find}
 use Rattle.sheet.specs.Holds.{Lots}
 use Rattle.sheet.specs.Read.{guard, then, depth, read-lots, read-free, all-undecided-before, header-ok, contents-ok, read-from, read}
 use Rattle.sheet.specs.Calls.{last-below}
-use Rattle.sheet.specs.Survey.{with-lot-found, found-from, nothing-found, lots-survey, free-of, found, survey-of}
+use Rattle.sheet.specs.Survey.{found-from, nothing-found, lots-survey, free-of, found, survey-of}
 use Rattle.sheet.proofs.HistoryLaws.{length-classes}
 use Rattle.sheet.proofs.Reading.{sound-lots}
 use Rattle.sheet.proofs.Lots.{find-above}

@@ -1,11 +1,10 @@
 -- What the walk tests is enough: undecided before the newest inspection and at the ends of stages is undecided before each.
 -- Assumes nothing.
 use Prim.Native.Nat.{ℕ, _-_, _≤_, _<_}
-use mathlib.Core.Path.{_≡_, refl, sym, ap, _∙_, subst}
+use mathlib.Core.Path.{_≡_, refl, sym, _∙_}
 use mathlib.Core.Logic.{_⊎_, inl, inr, ⊎-elim}
 use mathlib.Core.Bool.{Bool, true, false, cond, _&&_}
-use mathlib.Core.Option.{Option, none, some}
-use mathlib.Core.List.{List, [], _∷_, _++_}
+use mathlib.Core.List.{List, [], _∷_}
 use native.Mathlib.Omega.{arith}
 use native.Mathlib.Decide.{decLt}
 use lib.ListN.{length, take}
@@ -13,14 +12,13 @@ use lib.Seq.{take-append-le, take-all}
 use lib.Dec.{eqb}
 use borrow.Author.Tests.{eqb-true, eqb-false}
 use Rattle.plan.specs.declared.stage.Answer.the-variants.{GoOn}
-use Rattle.plan.specs.Plan.{Stage, stages, total, End, end-below, admitted}
+use Rattle.plan.specs.Plan.{Stage, stages, End, end-below, admitted}
 use Rattle.plan.specs.Counts.{counts}
 use Rattle.plan.specs.Stopping.{earliest}
-use Rattle.plan.specs.Promise.{Promise}
 use Rattle.plan.proofs.Promise.{promise}
 use Rattle.sheet.specs.Contents.{Inspection, classes}
 use Rattle.sheet.specs.Read.{undecided, undecided-before}
-use Rattle.sheet.specs.Survey.{may-go-on, next-test, tested}
+use Rattle.sheet.specs.Survey.{next-test, tested}
 use Rattle.sheet.proofs.Bools.{and-left, and-right}
 use Rattle.sheet.proofs.HistoryLaws.{classes-cons, length-classes, goes-on, test}
 

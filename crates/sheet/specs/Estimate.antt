@@ -1,5 +1,5 @@
 -- Estimates. Document 01, "Lists, events, estimates"; 002, 8.3.
-use Prim.Native.Nat.{ℕ, _-_, _≤_}
+use Prim.Native.Nat.{ℕ, _-_}
 use mathlib.Core.Bool.{cond}
 use mathlib.Core.List.{List, [], _∷_}
 use lib.ListN.{length}

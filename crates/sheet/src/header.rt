@@ -2,7 +2,7 @@
 ghost use mathlib.Core.Path.{_≡_};
 ghost use Prim.Native.Nat.{_≤_};
 ghost use lib.ListN.{length};
-ghost use Rattle.sheet.specs.Layout.{first-record, most-closed, closed-lots, closed-units};
+ghost use Rattle.sheet.specs.Layout.{first-record};
 ghost use Rattle.sheet.specs.Read.{all-zero, header-ok};
 ghost use Rattle.sheet.specs.Survey.{are-totals};
 

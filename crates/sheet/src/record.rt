@@ -1,7 +1,7 @@
 // Records of a sheet, four words each, by their index. Document 01, "Sheet".
 ghost use mathlib.Core.Path.{_≡_};
 ghost use Prim.Native.Nat.{_+_, _*_, _≤_, _<_};
-ghost use lib.ListN.{length, set};
+ghost use lib.ListN.{length};
 ghost use Rattle.sheet.specs.Layout.{field, put, put-record};
 ghost use Rattle.sheet.specs.Survey.{record-at};
 

@@ -1,10 +1,8 @@
 -- `sheet::is_inspection` meets its contract: one test after the other. Assumes nothing.
 use borrow.Author.Needs.{needs}
-use borrow.Author.Tests.{leb-true, ltb-true, le-leb, lt-leb, eq-eqb, ne-eqb, not-true, not-false}
-use mathlib.Core.Path.{_≡_, ap, sym, _∙_}
-use native.Mathlib.Omega.{arith}
+use borrow.Author.Tests.{le-leb, lt-leb, eq-eqb, ne-eqb, not-true, not-false}
+use mathlib.Core.Path.{ap, sym, _∙_}
 use Rattle.sheet.specs.declared.record.Record.{Record}
-use Rattle.sheet.specs.Layout.{field, free-tag}
 use Rattle.sheet.proofs.Used.{record-within}
 use Rattle.sheet.proofs.chain.is_inspection.Statement.{statement}
 use Rattle.sheet.proofs.chain.is_inspection.Tie as tie

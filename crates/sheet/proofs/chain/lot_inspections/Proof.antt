@@ -1,9 +1,9 @@
 -- `sheet::lot_inspections` meets its contract: no inspection, a damaged newest one, more than a lot can have, or the walk. Assumes nothing.
 use borrow.Author.Needs.{needs}
 use borrow.Author.Tests.{not-true, not-false}
-use mathlib.Core.Path.{_≡_, sym, ap, _∙_}
+use mathlib.Core.Path.{sym, ap, _∙_}
 use native.Mathlib.Omega.{arith}
-use Prim.Native.Nat.{ℕ, _-_}
+use Prim.Native.Nat.{ℕ}
 use Rattle.plan.specs.Plan.{stages}
 use Rattle.plan.proofs.Promise.{shape}
 use Rattle.sheet.specs.Layout.{first-record}

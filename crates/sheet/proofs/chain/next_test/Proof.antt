@@ -1,5 +1,4 @@
 -- `sheet::next_test` meets its contract. Assumes nothing.
-use borrow.Author.Needs.{needs}
 use native.Mathlib.Omega.{arith}
 use borrow.Author.Tests.{eq-eqb, ne-eqb}
 use Rattle.sheet.proofs.chain.next_test.Statement.{statement}

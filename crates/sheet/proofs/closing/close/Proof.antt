@@ -1,5 +1,5 @@
 -- `sheet::close` meets its contract: the tests are in the order of the table. Assumes nothing.
-use mathlib.Core.Path.{_≡_, refl, sym, ap, _∙_}
+use mathlib.Core.Path.{refl, sym, ap, _∙_}
 use borrow.Author.Needs.{needs}
 use Rattle.sheet.specs.Read.{undecided}
 use Rattle.sheet.proofs.LocatedFacts.{With-lot, with-lot}

@@ -1,7 +1,5 @@
 -- `sheet::without_unit` meets its contract. Assumes nothing.
-use Prim.Native.Nat.{_≤_}
-use mathlib.Core.Path.{_≡_, refl}
-use native.Mathlib.Omega.{arith}
+use mathlib.Core.Path.{refl}
 use borrow.Author.Tests.{eq-eqb, ne-eqb}
 use Rattle.sheet.proofs.estimating.without_unit.Statement.{statement}
 use Rattle.sheet.proofs.estimating.without_unit.Tie as tie

@@ -1,12 +1,12 @@
 -- `sheet::locate_lot` meets its contract: no lot is in record 0. Assumes nothing.
-use mathlib.Core.Path.{_≡_, sym, _∙_}
+use mathlib.Core.Path.{sym, _∙_}
 use mathlib.Core.Bool.{not}
 use mathlib.Core.List.{[], _∷_}
 use borrow.Author.Needs.{needs}
 use Rattle.sheet.specs.declared.locating.Located.the-variants.{Refused, At}
 use Rattle.sheet.specs.Layout.{size-ok}
 use Rattle.sheet.specs.Calls.{row, on-sheet, corrupt}
-use Rattle.sheet.specs.Locating.{found-on, located}
+use Rattle.sheet.specs.Locating.{found-on}
 use Rattle.sheet.proofs.LocatedFacts.{refused-by, whole, not-there, there}
 use Rattle.sheet.proofs.locating.locate_lot.Statement.{statement}
 use Rattle.sheet.proofs.locating.locate_lot.Tie as tie

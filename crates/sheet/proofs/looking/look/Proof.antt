@@ -1,5 +1,5 @@
 -- `sheet::look` meets its contract. Assumes nothing.
-use mathlib.Core.Path.{_≡_, refl, sym, ap, _∙_}
+use mathlib.Core.Path.{refl, sym, _∙_}
 use borrow.Author.Needs.{needs}
 use Rattle.sheet.proofs.LocatedFacts.{With-lot, with-lot}
 use Rattle.sheet.proofs.CallSteps.{answer-requires, few, look-refused, look-shown}

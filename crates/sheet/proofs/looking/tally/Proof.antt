@@ -1,5 +1,5 @@
 -- `sheet::tally` meets its contract: the totals are words of the header. Assumes nothing.
-use mathlib.Core.Path.{_≡_, refl, sym, _∙_}
+use mathlib.Core.Path.{refl, sym, _∙_}
 use native.Mathlib.Omega.{arith}
 use borrow.Author.Needs.{needs}
 use Rattle.sheet.proofs.Sizes.{long-enough}

@@ -1,10 +1,8 @@
 -- `sheet::is_lot` meets its contract: one test after the other. Assumes nothing.
 use borrow.Author.Needs.{needs}
-use borrow.Author.Tests.{leb-true, ltb-true, le-leb, lt-leb, lt-ltb, le-ltb, eq-eqb, ne-eqb, not-true, not-false}
-use mathlib.Core.Path.{_≡_, ap, sym, _∙_}
-use native.Mathlib.Omega.{arith}
+use borrow.Author.Tests.{lt-ltb, le-ltb, not-true, not-false}
+use mathlib.Core.Path.{ap, sym, _∙_}
 use Rattle.sheet.specs.declared.record.Record.{Record}
-use Rattle.sheet.specs.Layout.{field, free-tag}
 use Rattle.sheet.proofs.Used.{record-within}
 use Rattle.sheet.proofs.survey.is_lot.Statement.{statement}
 use Rattle.sheet.proofs.survey.is_lot.Tie as tie

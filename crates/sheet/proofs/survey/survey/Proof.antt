@@ -1,16 +1,13 @@
 -- `sheet::survey` meets its contract: the header, the lots, the free records, and their number. Assumes nothing.
-use Prim.Native.Nat.{ℕ, _+_, _-_, _*_, _≤_}
+use Prim.Native.Nat.{ℕ, _≤_}
 use mathlib.Core.Path.{_≡_, refl, sym, ap, _∙_}
 use mathlib.Core.Bool.{true}
 use mathlib.Core.List.{List}
 use native.Mathlib.Omega.{arith}
 use borrow.Author.Needs.{needs}
 use borrow.Author.Tests.{leb-true, not-true, not-false}
-use lib.ListN.{length}
 use Rattle.plan.specs.Plan.{stages, admitted}
-use Rattle.plan.proofs.Promise.{shape}
 use Rattle.sheet.specs.declared.chain.FreeChain.the-variants as free
-use Rattle.sheet.specs.declared.survey.Surveyed.{Surveyed}
 use Rattle.sheet.specs.declared.survey.Surveyed.the-variants.{Corrupt, Intact}
 use Rattle.sheet.specs.Layout.{word, records, next-unused, first-lot, stage-count, first-record, plan-words}
 use Rattle.sheet.specs.Read.{read-lots, header-ok}
