@@ -5,6 +5,7 @@
 //!
 //! - `reference cases` writes the seeded cases on stdout, the same at each run.
 //! - `reference answers` reads case lines on stdin and writes one answer line each.
+//! - `reference sheet-cases` and `reference sheet-answers`: alike, for calls on sheets.
 //! - `reference stats` says on stderr what the seeded cases cover.
 //! - `reference selftest` checks this program itself.
 //!
@@ -21,6 +22,10 @@ mod plan;
 mod published;
 mod random;
 mod selftest;
+mod sheet;
+mod sheet_answers;
+mod sheet_cases;
+mod sheet_damage;
 mod stats;
 
 use std::io::{self, BufRead, BufWriter, Write};
@@ -30,9 +35,11 @@ fn main() -> ExitCode {
     let done = match std::env::args().nth(1).as_deref() {
         Some("cases") => write_cases(),
         Some("answers") => write_answers(),
+        Some("sheet-cases") => write_lines(sheet_cases::all().into_iter().map(Ok)),
+        Some("sheet-answers") => write_sheet_answers(),
         Some("stats") => stats::write(),
         Some("selftest") => selftest::run(),
-        _ => Err("usage: reference cases | answers | stats | selftest".to_string()),
+        _ => Err("usage: reference [sheet-]cases | [sheet-]answers | stats | selftest".to_string()),
     };
     match done {
         Ok(()) => ExitCode::SUCCESS,
@@ -52,6 +59,14 @@ fn write_answers() -> Result<(), String> {
     write_lines(io::stdin().lock().lines().map(|line| {
         let line = line.map_err(|error| error.to_string())?;
         answerer.answer(&line)
+    }))
+}
+
+fn write_sheet_answers() -> Result<(), String> {
+    let mut run = sheet_answers::Run::new();
+    write_lines(io::stdin().lock().lines().map(|line| {
+        let line = line.map_err(|error| error.to_string())?;
+        run.answer(&line)
     }))
 }
 
