@@ -1,0 +1,75 @@
+// The commands that call the library, and those that write words between the calls.
+use crate::fill;
+use crate::print;
+use sheet::Done;
+
+// Open, strike or close.
+fn write(kind: u8, words: &mut [u32], lot: u32) -> Done {
+    if kind == b'o' {
+        return sheet::open(words, lot);
+    }
+    if kind == b's' {
+        return sheet::strike(words, lot);
+    }
+    sheet::close(words, lot)
+}
+
+fn on_lot(kind: u8, words: &mut [u32], lot: u32) {
+    if kind == b'l' {
+        print::looked(sheet::look(words, lot));
+        print::digest(words);
+        return;
+    }
+    if kind == b'o' || kind == b's' || kind == b'c' {
+        print::done(write(kind, words, lot));
+        print::digest(words);
+        return;
+    }
+    print::bad_line();
+}
+
+fn on_two(kind: u8, words: &mut [u32], first: u32, second: u32) {
+    if kind == b'p' {
+        fill::word(words, first, second);
+        return;
+    }
+    if kind == b'i' {
+        print::done(sheet::inspect(words, first, second));
+        print::digest(words);
+        return;
+    }
+    print::bad_line();
+}
+
+fn on_five(kind: u8, words: &mut [u32], list: &[u32]) {
+    if kind == b'a' && list.len() == 5 {
+        fill::several(words, list[0], list[1], list[2], list[3], list[4]);
+        return;
+    }
+    print::bad_line();
+}
+
+fn on_none(kind: u8, words: &[u32]) {
+    if kind == b't' {
+        print::tallied(sheet::tally(words));
+        print::digest(words);
+        return;
+    }
+    print::bad_line();
+}
+
+// A command of this kind, with the numbers of its line.
+pub fn answer(kind: u8, list: &[u32], words: &mut [u32]) {
+    if kind == b'f' {
+        print::done(sheet::fresh(words, list));
+        print::digest(words);
+        return;
+    }
+    match list.len() {
+        0 => on_none(kind, words),
+        1 => on_lot(kind, words, list[0]),
+        2 => on_two(kind, words, list[0], list[1]),
+        5 => on_five(kind, words, list),
+        _ => print::bad_line(),
+    }
+}
