@@ -42,11 +42,15 @@ fn on_two(kind: u8, words: &mut [u32], first: u32, second: u32) {
 }
 
 fn on_five(kind: u8, words: &mut [u32], list: &[u32]) {
-    if kind == b'a' && list.len() == 5 {
-        fill::several(words, list[0], list[1], list[2], list[3], list[4]);
+    if list.len() != 5 {
+        print::bad_line();
         return;
     }
-    print::bad_line();
+    if kind != b'a' {
+        print::bad_line();
+        return;
+    }
+    fill::several(words, list[0], list[1], list[2], list[3], list[4]);
 }
 
 fn on_none(kind: u8, words: &[u32]) {
