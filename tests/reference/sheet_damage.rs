@@ -32,6 +32,7 @@ impl Script {
             self.several_words();
         }
         self.heads();
+        self.indices_at_limits();
         self.after_a_stop();
     }
 
@@ -129,6 +130,28 @@ impl Script {
             self.fresh(67, 0, SINGLE);
             self.put(0, next);
             self.lines("t, o 1, o 2, i 1 0");
+        }
+    }
+
+    /// Chains in order but for an index of 10, or of word 0: as a lot, as an
+    /// inspection and as a free record. Then each again with the index inside.
+    fn indices_at_limits(&mut self) {
+        let chains = [
+            "p 40 5, p 1 10, p 0 12",
+            "p 40 2, p 42 11, p 43 1, p 1 11, p 44 5, p 46 10, p 0 13",
+            "p 1 12, p 48 5, p 0 12",
+            "p 1 11, p 44 5, p 46 13, p 54 11, p 55 1, p 0 13",
+            "p 1 11, p 44 5, p 46 12, p 50 11, p 51 1, p 0 13",
+            "p 2 12, p 48 1, p 51 4294967295, p 0 12",
+            "p 2 11, p 44 1, p 47 4294967295, p 0 12",
+            "p 1 16, p 0 16",
+            "p 1 15, p 60 5, p 0 16",
+            "p 1 11, p 44 5, p 0 12",
+        ];
+        for lines in chains {
+            self.fresh(64, 0, A);
+            self.lines(lines);
+            self.lines("t, l 5, e 5, s 5, o 6, i 5 0, c 5");
         }
     }
 
