@@ -20,6 +20,11 @@ fn on_lot(kind: u8, words: &mut [u32], lot: u32) {
         print::digest(words);
         return;
     }
+    if kind == b'e' {
+        print::estimated(sheet::estimate(words, lot));
+        print::digest(words);
+        return;
+    }
     if kind == b'o' || kind == b's' || kind == b'c' {
         print::done(write(kind, words, lot));
         print::digest(words);

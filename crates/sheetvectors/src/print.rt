@@ -1,6 +1,7 @@
 // The answers, one line each: a reply, then the digest of all words of the sheet.
 use libc::STDOUT_FILENO;
 use sheet::Done;
+use sheet::Estimated;
 use sheet::Looked;
 use sheet::Tallied;
 
@@ -13,14 +14,14 @@ pub fn ok() {
 }
 
 // A number and a space.
-fn number(value: u32) {
-    io::print_decimal(STDOUT_FILENO, value as u64);
+fn number(value: u64) {
+    io::print_decimal(STDOUT_FILENO, value);
     io::write_all(STDOUT_FILENO, b" ");
 }
 
 fn refused(value: u32) {
     io::write_all(STDOUT_FILENO, b"no ");
-    number(value);
+    number(value as u64);
 }
 
 pub fn done(reply: Done) {
@@ -36,11 +37,11 @@ pub fn looked(reply: Looked) {
     match reply {
         Looked::Shown(s) => {
             let answer = s.answer;
-            number(plan::state(answer) as u32);
-            number(s.units);
-            number(s.good);
-            number(s.marginal);
-            number(s.bad);
+            number(plan::state(answer) as u64);
+            number(s.units as u64);
+            number(s.good as u64);
+            number(s.marginal as u64);
+            number(s.bad as u64);
         }
         Looked::Refused(n) => refused(n),
     }
@@ -49,13 +50,25 @@ pub fn looked(reply: Looked) {
 pub fn tallied(reply: Tallied) {
     match reply {
         Tallied::Totals(t) => {
-            number(t.accepted);
-            number(t.rejected);
-            number(t.good);
-            number(t.marginal);
-            number(t.bad);
+            number(t.accepted as u64);
+            number(t.rejected as u64);
+            number(t.good as u64);
+            number(t.marginal as u64);
+            number(t.bad as u64);
         }
         Tallied::Refused(n) => refused(n),
+    }
+}
+
+pub fn estimated(reply: Estimated) {
+    match reply {
+        Estimated::Estimate(e) => {
+            number(e.good);
+            number(e.marginal);
+            number(e.bad);
+            number(e.over);
+        }
+        Estimated::Refused(n) => refused(n),
     }
 }
 
