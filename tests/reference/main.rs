@@ -26,6 +26,7 @@ mod sheet;
 mod sheet_answers;
 mod sheet_cases;
 mod sheet_damage;
+mod sheet_histories;
 mod stats;
 
 use std::io::{self, BufRead, BufWriter, Write};
@@ -38,7 +39,7 @@ fn main() -> ExitCode {
         Some("sheet-cases") => write_lines(sheet_cases::all().into_iter().map(Ok)),
         Some("sheet-answers") => write_sheet_answers(),
         Some("stats") => stats::write(),
-        Some("selftest") => selftest::run(),
+        Some("selftest") => selftest::run().and_then(|()| sheet_histories::selftest()),
         _ => Err("usage: reference [sheet-]cases | [sheet-]answers | stats | selftest".to_string()),
     };
     match done {

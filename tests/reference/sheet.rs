@@ -44,7 +44,7 @@ impl Judging {
     }
 }
 
-/// The plans met so far; a table is the costly part of a call.
+/// The plans asked for so far, kept because a table takes most of a call's time.
 #[derive(Default)]
 pub struct Plans {
     kept: HashMap<Vec<u32>, Option<Rc<Judging>>>,

@@ -1,5 +1,5 @@
 //! The seeded lists of commands on sheets: hand-written ones, then random ones.
-//! sheet_damage.rs has those that write words behind the calls' backs.
+//! sheet_damage.rs has those that damage a sheet between two calls.
 
 use crate::answers::classes;
 use crate::cases::fields;
@@ -248,31 +248,11 @@ impl Script {
                 .random
                 .pick(&[[1, 1, 1], [8, 1, 1], [2, 1, 0], [1, 0, 3], [1, 3, 1]]);
             for _ in 0..70 {
-                self.random_call(mix);
+                let line = random_call(&mut self.random, mix);
+                self.line(&line);
             }
             self.line("t");
         }
-    }
-
-    fn random_call(&mut self, mix: [u32; 3]) {
-        let lot = self.random.pick(&[1, 2, 3, 1_000, u32::MAX]);
-        let lot = if self.random.one_in(40) { 0 } else { lot };
-        let class = u32::from(self.random.class(mix));
-        let class = if self.random.one_in(40) {
-            self.random.pick(&[3, 256, u32::MAX])
-        } else {
-            class
-        };
-        let line = match self.random.index(20) {
-            0..=2 => format!("o {lot}"),
-            3..=11 => format!("i {lot} {class}"),
-            12 => format!("s {lot}"),
-            13..=15 => format!("c {lot}"),
-            16 | 17 => format!("l {lot}"),
-            18 => format!("e {lot}"),
-            _ => "t".to_string(),
-        };
-        self.line(&line);
     }
 
     /// Full sheets of 65,536 words, with their chains written in few lines.
@@ -294,5 +274,26 @@ impl Script {
             self.lines("i 4294967295 0, l 4294967295, e 4294967295, c 4294967295, t, l 4294967295, o 4294967295");
             self.lines("i 4294967295 2, l 4294967295");
         }
+    }
+}
+
+/// A call on one of few lots; classes mostly by these weights.
+pub fn random_call(random: &mut Random, mix: [u32; 3]) -> String {
+    let lot = random.pick(&[1, 2, 3, 1_000, u32::MAX]);
+    let lot = if random.one_in(40) { 0 } else { lot };
+    let class = u32::from(random.class(mix));
+    let class = if random.one_in(40) {
+        random.pick(&[3, 256, u32::MAX])
+    } else {
+        class
+    };
+    match random.index(20) {
+        0..=2 => format!("o {lot}"),
+        3..=11 => format!("i {lot} {class}"),
+        12 => format!("s {lot}"),
+        13..=15 => format!("c {lot}"),
+        16 | 17 => format!("l {lot}"),
+        18 => format!("e {lot}"),
+        _ => "t".to_string(),
     }
 }
