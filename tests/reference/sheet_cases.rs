@@ -169,7 +169,7 @@ impl Script {
                             self.line(&format!("{call} {lot}"));
                         }
                     }
-                    self.line("t");
+                    self.lines("t, f 5 2 3 1 3, f 5 2 3 1 2, t");
                 }
             }
         }
