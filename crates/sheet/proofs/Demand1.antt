@@ -8,7 +8,9 @@ use Rattle.plan.proofs.Refusals.{refused-exactly}
 use Rattle.sheet.specs.declared.reply.Done.the-variants as done
 use Rattle.sheet.specs.declared.reply.Looked.the-variants as looked
 use Rattle.sheet.specs.declared.reply.Tallied.the-variants as tallied
+use Rattle.sheet.specs.declared.reply.Estimated.the-variants as estimated
 use Rattle.sheet.specs.Calls.{outcome, fresh, open-lot, inspect, strike, close, look, tally}
+use Rattle.sheet.specs.Estimate.{estimate}
 use Rattle.sheet.specs.Demand1.{Refused-by, Demand-1}
 use Rattle.sheet.proofs.Outcomes.{by-rows, reply-by-rows}
 
@@ -29,7 +31,7 @@ module _ (w : List ℕ) where
   ok-not n e = let z : _≡_ {A = ℕ} 0 1 = cc in omega arith
 
   pub demand-1 : Demand-1 w
-  unfolding fresh open-lot inspect strike close look tally
+  unfolding fresh open-lot inspect strike close look tally estimate
   demand-1 = record {
     fresh = λ p. refused-by done.Refused _ w done.Ok _ done-apart ok-not;
     opening = λ n. refused-by done.Refused _ w done.Ok _ done-apart ok-not;
@@ -38,4 +40,5 @@ module _ (w : List ℕ) where
     closing = λ n. refused-by done.Refused _ w done.Ok _ done-apart ok-not;
     looking = λ n. refused-by looked.Refused _ w _ w (λ m k e. cc) (λ k e. let z : _≡_ {A = ℕ} 0 1 = cc in omega arith);
     tallying = refused-by tallied.Refused _ w _ w (λ m k e. cc) (λ k e. let z : _≡_ {A = ℕ} 0 1 = cc in omega arith);
+    estimating = λ n. refused-by estimated.Refused _ w _ w (λ m k e. cc) (λ k e. let z : _≡_ {A = ℕ} 0 1 = cc in omega arith);
   }

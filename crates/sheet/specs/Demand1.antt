@@ -8,7 +8,9 @@ use Rattle.plan.specs.Refusal.{Refusal, First}
 use Rattle.sheet.specs.declared.reply.Done.the-variants as done
 use Rattle.sheet.specs.declared.reply.Looked.the-variants as looked
 use Rattle.sheet.specs.declared.reply.Tallied.the-variants as tallied
+use Rattle.sheet.specs.declared.reply.Estimated.the-variants as estimated
 use Rattle.sheet.specs.Calls.{Outcome, fresh-rows, fresh, open-rows, open-lot, inspect-rows, inspect, strike-rows, strike, close-rows, close, look-rows, look, tally-rows, tally}
+use Rattle.sheet.specs.Estimate.{estimate-rows, estimate}
 
 pub record Refused-by {R : Type 0} (refused : ℕ → R) (rows : List Refusal) (w : List ℕ) (o : Outcome R) : Type 0 where
   pub exactly : (n : ℕ) → (o .reply ≡ refused n) ↔ First rows n
@@ -22,3 +24,4 @@ pub record Demand-1 (w : List ℕ) : Type 0 where
   pub closing : (n : ℕ) → Refused-by done.Refused (close-rows n w) w (close n w)
   pub looking : (n : ℕ) → Refused-by looked.Refused (look-rows n w) w (look n w)
   pub tallying : Refused-by tallied.Refused (tally-rows w) w (tally w)
+  pub estimating : (n : ℕ) → Refused-by estimated.Refused (estimate-rows n w) w (estimate n w)

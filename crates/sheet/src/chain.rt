@@ -1,5 +1,8 @@
 // Chains of records: a lot's inspections, and the free records. Each record is tested before its words
 // are used, so that a damaged chain ends the walk.
+use crate::layout::FIRST_FREE;
+use crate::layout::FIRST_RECORD;
+use crate::layout::NEXT_UNUSED;
 use crate::record::field_of;
 use crate::record::record_at;
 use plan::Answer;
@@ -31,10 +34,10 @@ pub fn is_used(sheet: &[u32], at: u32) -> bool
     requires { ⌜ Sized (now sheet) ⌝ }
     ensures { λ r. ⌜ r ≡ in-use first-record (now (sheet .entry)) at ⌝ }
 {
-    if at < 11 {
+    if at < FIRST_RECORD {
         return false;
     }
-    at < sheet[0]
+    at < sheet[NEXT_UNUSED]
 }
 
 // Is this the inspection of the lot with this serial?
@@ -172,7 +175,7 @@ pub fn free_chain(sheet: &[u32]) -> FreeChain
     requires { ⌜ Sized (now sheet) ⌝ }
     ensures { λ r. ⌜ r ≡ free-of (read-free first-record (now (sheet .entry)) (depth (now (sheet .entry))) (word (now (sheet .entry)) first-free)) ⌝ }
 {
-    let first = sheet[2];
+    let first = sheet[FIRST_FREE];
     if first == 0 {
         return FreeChain::Whole(0);
     }

@@ -1,4 +1,12 @@
 // The header of a sheet: is it that of an intact one? Document 01, "Sheet".
+use crate::layout::ACCEPTED_LOTS;
+use crate::layout::BAD_UNITS;
+use crate::layout::GOOD_UNITS;
+use crate::layout::MARGINAL_UNITS;
+use crate::layout::NEXT_UNUSED;
+use crate::layout::PLAN_START;
+use crate::layout::REJECTED_LOTS;
+use crate::layout::STAGE_COUNT;
 ghost use mathlib.Core.Path.{_≡_};
 ghost use Prim.Native.Nat.{_≤_};
 ghost use lib.ListN.{length};
@@ -24,8 +32,8 @@ fn are_totals(sheet: &[u32]) -> bool
     requires { ⌜ 48 ≤ length (now sheet) ⌝ }
     ensures { λ r. ⌜ r ≡ are-totals (now (sheet .entry)) ⌝ }
 {
-    let lots = sheet[39] as u64 + sheet[40] as u64;
-    let units = sheet[41] as u64 + sheet[42] as u64 + sheet[43] as u64;
+    let lots = sheet[ACCEPTED_LOTS] as u64 + sheet[REJECTED_LOTS] as u64;
+    let units = sheet[GOOD_UNITS] as u64 + sheet[MARGINAL_UNITS] as u64 + sheet[BAD_UNITS] as u64;
     if 4000000 < lots {
         return false;
     }
@@ -36,18 +44,18 @@ pub fn is_header(sheet: &[u32]) -> bool
     requires { ⌜ (48 ≤ length (now sheet)) × (length (now sheet) ≤ 65536) ⌝ }
     ensures { λ r. ⌜ r ≡ header-ok first-record (now (sheet .entry)) ⌝ }
 {
-    let k = sheet[3];
+    let k = sheet[STAGE_COUNT];
     if 7 < k {
         return false;
     }
     let end = (4 + 5 * k) as usize;
-    if !plan::admitted(&sheet[4..end]) {
+    if !plan::admitted(&sheet[PLAN_START..end]) {
         return false;
     }
-    if !is_zero(&sheet[end..39]) {
+    if !is_zero(&sheet[end..ACCEPTED_LOTS]) {
         return false;
     }
-    let unused = sheet[0] as usize;
+    let unused = sheet[NEXT_UNUSED] as usize;
     if unused < 11 {
         return false;
     }

@@ -5,6 +5,10 @@ use crate::chain::free_chain;
 use crate::chain::is_used;
 use crate::chain::lot_inspections;
 use crate::header::is_header;
+use crate::layout::FIRST_LOT;
+use crate::layout::NEXT_UNUSED;
+use crate::layout::PLAN_START;
+use crate::layout::STAGE_COUNT;
 use crate::record::record_at;
 use plan::Counts;
 ghost use mathlib.Core.Path.{_≡_};
@@ -81,7 +85,7 @@ fn lots(sheet: &[u32], plan: &[u32], sought: u32) -> Surveyed
     };
     let mut left = sheet.len() / 4;
     let mut above: u32 = 0;
-    let mut at = sheet[1];
+    let mut at = sheet[FIRST_LOT];
     while 0 < left {
         if at == 0 {
             return Surveyed::Intact(f);
@@ -113,7 +117,7 @@ fn are_counted(sheet: &[u32], used: u32, free: u32) -> bool
     requires { ⌜ 48 ≤ length (now sheet) ⌝ }
     ensures { λ r. ⌜ r ≡ eqb (first-record + (used + free)) (word (now (sheet .entry)) next-unused) ⌝ }
 {
-    11 + (used as u64 + free as u64) == sheet[0] as u64
+    11 + (used as u64 + free as u64) == sheet[NEXT_UNUSED] as u64
 }
 
 // The survey of a sheet for the lot number that is sought.
@@ -124,8 +128,8 @@ pub fn survey(sheet: &[u32], sought: u32) -> Surveyed
     if !is_header(sheet) {
         return Surveyed::Corrupt;
     }
-    let end = (4 + 5 * sheet[3]) as usize;
-    match lots(sheet, &sheet[4..end], sought) {
+    let end = (4 + 5 * sheet[STAGE_COUNT]) as usize;
+    match lots(sheet, &sheet[PLAN_START..end], sought) {
         Surveyed::Corrupt => Surveyed::Corrupt,
         Surveyed::Intact(f) => match free_chain(sheet) {
             FreeChain::Cut => Surveyed::Corrupt,
