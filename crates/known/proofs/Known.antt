@@ -1,0 +1,26 @@
+-- The starred rows, computed. Assumes nothing. The one place that opens the definitions of other crates.
+use mathlib.Core.Path.{_≡_, refl}
+use Rattle.plan.specs.Plan.{stages, total, last-reject1, last-reject2, rules, admitted}
+use Rattle.plan.specs.Counts.{add-units, counts}
+use Rattle.plan.specs.Stopping.{staged, earliest}
+use Rattle.judge.specs.Judge.{judged}
+use Rattle.chance.specs.Chance.{low, high}
+use Rattle.chance.specs.Reply.{chance-reply}
+use Rattle.known.specs.Known.{Known-lots}
+
+pub known-lots : Known-lots
+unfolding stages total last-reject1 last-reject2 rules admitted add-units counts staged earliest judged low high chance-reply
+known-lots = record {
+  a-0000 = refl;
+  a-0001 = refl;
+  a-000 = refl;
+  a-11000 = refl;
+  a-22 = refl;
+  a-112 = refl;
+  a-122 = refl;
+  a-122-estimate = refl;
+  b-ten-good = refl;
+  b-2-ten-good = refl;
+  one-unit = refl;
+  one-unit-half = refl;
+}

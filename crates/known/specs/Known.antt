@@ -1,0 +1,40 @@
+-- The starred rows of document 01, "Known lots", in one statement. A judged list's numbers are stop and state of uncurtailed, semi,
+-- full and earliest, then the event.
+use Prim.Native.Nat.{ℕ}
+use mathlib.Core.Path.{_≡_}
+use mathlib.Core.List.{List, [], _∷_}
+use Rattle.plan.specs.Plan.{stages}
+use Rattle.judge.specs.Judge.{judged, numbers}
+use Rattle.chance.specs.declared.answers.Bounded.the-variants as bounded
+use Rattle.chance.specs.Reply.{weights-of, chance-reply}
+use Rattle.sheet.specs.declared.reply.Estimate.{Estimate}
+use Rattle.sheet.specs.Estimate.{estimate-of}
+
+-- that of the program
+abbrev pub plan-a : List ℕ
+plan-a = 5 ∷ 2 ∷ 3 ∷ 1 ∷ 2 ∷ []
+
+-- sizes 10, 1; both rows 0, 3 then 5, 6
+abbrev pub plan-b : List ℕ
+plan-b = 10 ∷ 0 ∷ 3 ∷ 0 ∷ 3 ∷ 1 ∷ 5 ∷ 6 ∷ 5 ∷ 6 ∷ []
+
+-- size 1, both rows 0, 1
+abbrev pub size-one : List ℕ
+size-one = 1 ∷ 0 ∷ 1 ∷ 0 ∷ 1 ∷ []
+
+abbrev pub ten-good : List ℕ
+ten-good = 0 ∷ 0 ∷ 0 ∷ 0 ∷ 0 ∷ 0 ∷ 0 ∷ 0 ∷ 0 ∷ 0 ∷ []
+
+pub record Known-lots : Type 0 where
+  pub a-0000 : numbers (judged plan-a (0 ∷ 0 ∷ 0 ∷ 0 ∷ [])) ≡ 0 ∷ 0 ∷ 0 ∷ 0 ∷ 4 ∷ 1 ∷ 4 ∷ 1 ∷ 1 ∷ []
+  pub a-0001 : numbers (judged plan-a (0 ∷ 0 ∷ 0 ∷ 1 ∷ [])) ≡ 0 ∷ 0 ∷ 0 ∷ 0 ∷ 4 ∷ 1 ∷ 4 ∷ 1 ∷ 3 ∷ []
+  pub a-000 : numbers (judged plan-a (0 ∷ 0 ∷ 0 ∷ [])) ≡ 0 ∷ 0 ∷ 0 ∷ 0 ∷ 0 ∷ 0 ∷ 0 ∷ 0 ∷ 0 ∷ []
+  pub a-11000 : numbers (judged plan-a (1 ∷ 1 ∷ 0 ∷ 0 ∷ 0 ∷ [])) ≡ 5 ∷ 1 ∷ 5 ∷ 1 ∷ 5 ∷ 1 ∷ 5 ∷ 1 ∷ 2 ∷ []
+  pub a-22 : numbers (judged plan-a (2 ∷ 2 ∷ [])) ≡ 0 ∷ 0 ∷ 2 ∷ 2 ∷ 2 ∷ 2 ∷ 2 ∷ 2 ∷ 4 ∷ []
+  pub a-112 : numbers (judged plan-a (1 ∷ 1 ∷ 2 ∷ [])) ≡ 0 ∷ 0 ∷ 3 ∷ 2 ∷ 3 ∷ 2 ∷ 3 ∷ 2 ∷ 5 ∷ []
+  pub a-122 : numbers (judged plan-a (1 ∷ 2 ∷ 2 ∷ [])) ≡ 0 ∷ 0 ∷ 3 ∷ 2 ∷ 3 ∷ 2 ∷ 3 ∷ 2 ∷ 6 ∷ []
+  pub a-122-estimate : estimate-of (stages plan-a) (1 ∷ 2 ∷ 2 ∷ []) ≡ record { good = 0; marginal = 1; bad = 1; over = 2 }
+  pub b-ten-good : numbers (judged plan-b ten-good) ≡ 10 ∷ 1 ∷ 10 ∷ 1 ∷ 10 ∷ 1 ∷ 8 ∷ 1 ∷ 0 ∷ []
+  pub b-2-ten-good : numbers (judged plan-b (2 ∷ ten-good)) ≡ 11 ∷ 1 ∷ 11 ∷ 1 ∷ 11 ∷ 1 ∷ 9 ∷ 1 ∷ 0 ∷ []
+  pub one-unit : chance-reply size-one (weights-of 1 1 1) 2 ≡ bounded.Pair (record { low = 366503875925; high = 366503875926 })
+  pub one-unit-half : chance-reply size-one (weights-of 1 0 1) 2 ≡ bounded.Pair (record { low = 549755813888; high = 549755813888 })
