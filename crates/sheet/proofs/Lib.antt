@@ -1,5 +1,7 @@
 -- The laws of the crate are Demand1, Demand3 and Corollaries, and Reading: what is read is what the words hold. Invariant has what
--- every call keeps. The rest are laws of the words, of chains and of each call, on the way to these.
+-- every call keeps.
+
+-- on the way to these: laws of the words, of chains and of each call
 mod Bools
 mod Words
 mod Chains
@@ -20,21 +22,24 @@ pub mod Demand1
 pub mod Demand3
 mod Replies
 pub mod Corollaries
+-- of the code that reads a sheet
+mod Sizes
 mod Used
+mod HeaderSteps
 mod ChainSteps
 mod Tested
 mod LotSteps
 mod FreeSteps
-mod HeaderSteps
 mod SurveySteps
+-- of the code that writes one
 mod NewRecord
 mod FreedChain
 mod TotalsKept
 mod Unlinked
 mod HeaderWords
-mod FreshOutcome
-mod Sizes
 mod Requires
+-- of the calls
+mod FreshOutcome
 mod LocatedFacts
 mod CallSteps
 mod EstimateSteps

@@ -2,7 +2,6 @@
 // one sheet; tests/reference/sheet_answers.rs describes them.
 mod calls;
 mod fill;
-mod line;
 mod print;
 
 use libc::STDIN_FILENO;
@@ -26,7 +25,7 @@ fn command(text: &[u8], words: &mut [u32], size: usize) -> usize {
         return size;
     }
     let mut list = [0u32; 128];
-    let n = line::words(text, 1, &mut list);
+    let n = cases::words(text, 1, &mut list);
     if n > 128 {
         print::bad_line();
         return size;

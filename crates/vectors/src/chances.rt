@@ -1,5 +1,4 @@
 // Cases on the chance of acceptance: three weights, the number of words of scratch, and the plan.
-use crate::line;
 use crate::print::Reply;
 use chance::Bounded;
 use chance::ChartAnswer;
@@ -30,7 +29,7 @@ fn chart(words: &[u32], scratch: &mut [u64]) -> Reply
 // call, since no call may count on that.
 pub fn answer(text: &[u8], floats: bool) -> Reply {
     let mut list = [0u32; 128];
-    let n = line::words(text, 1, &mut list);
+    let n = cases::words(text, 1, &mut list);
     if n < 4 {
         return Reply::BadLine;
     }

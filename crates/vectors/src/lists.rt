@@ -1,5 +1,4 @@
 // Cases on a list of classes.
-use crate::line;
 use crate::print::Reply;
 use judge::Judged;
 
@@ -12,9 +11,9 @@ pub fn judged(text: &[u8]) -> Reply {
         return Reply::BadLine;
     }
     let mut classes = [0u8; 4096];
-    let count = line::classes(text, 3, &mut classes);
+    let count = cases::classes(text, 3, &mut classes);
     let mut list = [0u32; 128];
-    let n = line::words(text, 3 + count, &mut list);
+    let n = cases::words(text, 3 + count, &mut list);
     if n > 128 {
         return Reply::BadLine;
     }

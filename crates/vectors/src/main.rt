@@ -1,7 +1,6 @@
 // Answers each case line of standard input by one line on standard output. A line's first byte is
 // its kind. A new kind needs an arm in `reply` and a function on the line, in its own module.
 mod chances;
-mod line;
 mod lists;
 mod plans;
 mod print;

@@ -1,4 +1,4 @@
-// The fields and numbers of a case line.
+// The fields and numbers of a case line, for the programs that answer test cases.
 ghost use Prim.Native.Nat.{_≤_};
 ghost use lib.ListN.{length};
 

@@ -1,12 +1,12 @@
--- `vectors::line::words` is safe and ends. The loop's invariant: the list keeps its length, and `n` is within it.
+-- `cases::words` is safe and ends. The loop's invariant: the list keeps its length, and `n` is within it.
 -- The measure is what is left of the list, since each turn writes a word. Assumes nothing.
 use Prim.Native.Nat.{_≤_, _-_}
 use mathlib.Core.Path.{_≡_}
 use native.Mathlib.Omega.{arith}
 use borrow.Author.Needs.{needs}
 use lib.ListN.{length, length-set}
-use Rattle.vectors.proofs.line.words.Statement.{statement}
-use Rattle.vectors.proofs.line.words.Tie as tie
+use Rattle.cases.proofs.words.Statement.{statement}
+use Rattle.cases.proofs.words.Tie as tie
 
 abbrev Inv-loop : tie.InvT-loop
 Inv-loop line at list₀ n₀ i₀ list n i = (length list ≡ length list₀) × (n ≤ length list)

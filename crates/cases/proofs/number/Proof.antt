@@ -1,10 +1,10 @@
--- `vectors::line::number` is safe and ends. The loop's invariant: the value fits u32, so ten times it and a digit fit u64.
+-- `cases::number` is safe and ends. The loop's invariant: the value fits u32, so ten times it and a digit fit u64.
 -- The measure is what is left of the line. Assumes nothing.
 use Prim.Native.Nat.{_≤_, _-_}
 use native.Mathlib.Omega.{arith}
 use lib.ListN.{length}
-use Rattle.vectors.proofs.line.number.Statement.{statement}
-use Rattle.vectors.proofs.line.number.Tie as tie
+use Rattle.cases.proofs.number.Statement.{statement}
+use Rattle.cases.proofs.number.Tie as tie
 
 abbrev Inv-loop : tie.InvT-loop
 Inv-loop line at value₀ i₀ value i = value ≤ 4294967295

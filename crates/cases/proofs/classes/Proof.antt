@@ -1,4 +1,4 @@
--- `vectors::line::classes` meets its contract. The loop's invariant: the list keeps its length, and `n` is within it.
+-- `cases::classes` meets its contract. The loop's invariant: the list keeps its length, and `n` is within it.
 -- The measure is what is left of the list. Assumes nothing.
 use Prim.Native.Nat.{_≤_, _-_}
 use mathlib.Core.Path.{_≡_}
@@ -6,8 +6,8 @@ use native.Mathlib.Omega.{arith}
 use borrow.Author.Needs.{needs}
 use borrow.Author.Tests.{ltb-true}
 use lib.ListN.{length, length-set}
-use Rattle.vectors.proofs.line.classes.Statement.{statement}
-use Rattle.vectors.proofs.line.classes.Tie as tie
+use Rattle.cases.proofs.classes.Statement.{statement}
+use Rattle.cases.proofs.classes.Tie as tie
 
 abbrev Inv-loop : tie.InvT-loop
 Inv-loop line at list₀ n₀ i₀ list n i = (length list ≡ length list₀) × (n ≤ length list)
