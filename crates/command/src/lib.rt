@@ -1,0 +1,2 @@
+// One line of input to one reply on a sheet. Document 01, "Program lots".
+mod decimal;
