@@ -1,3 +1,4 @@
 pub mod Decimal
 pub mod Read
 pub mod Command
+pub mod Printed
