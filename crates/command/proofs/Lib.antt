@@ -1,2 +1,4 @@
--- What the proofs of several functions use, and the laws of the numbers printed and read (Digits).
+-- What the proofs of several functions use, and the laws of the numbers printed and read (Digits) and of fields (OneField).
 pub mod Digits
+pub mod OneField
+mod Writing

@@ -1,2 +1,4 @@
 // One line of input to one reply on a sheet. Document 01, "Program lots".
 mod decimal;
+mod fields;
+mod printing;

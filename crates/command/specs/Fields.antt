@@ -1,0 +1,22 @@
+-- A line's fields one after another, as the code reads them. specs/Command.antt says what the fields are; that these are the
+-- same is proved in proofs/OneField.antt.
+use Prim.Native.Nat.{ℕ, zero, suc}
+use mathlib.Core.Path.{_≡_}
+use mathlib.Core.Bool.{cond}
+use mathlib.Core.List.{List, [], _∷_}
+use lib.ListN.{take, drop}
+use lib.Dec.{eqb}
+use Rattle.command.specs.Command.{space, fields}
+
+-- how many bytes stand before the first space, or in all if there is none
+unfoldable pub until-space : List ℕ → ℕ
+until-space [] = zero
+until-space (b ∷ bs) = cond (eqb b space) zero (suc (until-space bs))
+
+-- the fields after the byte that ends one; none at the end of the line
+abbrev pub fields-after : List ℕ → List (List ℕ)
+fields-after [] = []
+fields-after (b ∷ bs) = fields bs
+
+abbrev pub First-field : Type 0
+First-field = (s : List ℕ) → fields s ≡ take (until-space s) s ∷ fields-after (drop (until-space s) s)

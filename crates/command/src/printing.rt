@@ -1,0 +1,21 @@
+// What is printed goes into a fixed run of bytes, from a place on. Document 01, "Program lots".
+ghost use mathlib.Core.Path.{_≡_};
+ghost use Prim.Native.Nat.{_+_, _≤_};
+ghost use lib.ListN.{length};
+ghost use Rattle.command.specs.Decimal.{printed};
+ghost use Rattle.command.specs.Written.{written};
+
+// Prints a number at a place. The result is the place after it.
+pub fn put_number(out: &mut [u8], at: usize, n: u32) -> usize
+    requires { ⌜ at + length (printed n) ≤ length (now out) ⌝ }
+    ensures { λ r. ⌜ r ≡ at + length (printed n) ⌝ }
+    ensures { λ _. ⌜ now (out .exit) ≡ written (now (out .entry)) at (printed n) ⌝ }
+{
+    if n < 10 {
+        out[at] = b'0' + n as u8;
+        return at + 1;
+    }
+    let end = put_number(out, at, n / 10);
+    out[end] = b'0' + (n % 10) as u8;
+    end + 1
+}
