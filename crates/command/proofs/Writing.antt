@@ -1,15 +1,17 @@
 -- Bytes written one after another. Assumes nothing.
-use Prim.Native.Nat.{ℕ, suc, _+_, _/_, _%_, _≤_, _<_}
+use Prim.Native.Nat.{ℕ, suc, _+_, _*_, _/_, _%_, _≤_, _<_}
 use native.Mathlib.Omega.{arith}
 use native.Mathlib.Numerals.{add-one}
-use native.Mathlib.Nat.{add-assoc}
+use native.Mathlib.Nat.{add-assoc, add-zero}
 use mathlib.Core.Path.{_≡_, refl, ap, sym, _∙_}
-use mathlib.Core.List.{List, [], _∷_, _++_, append-assoc}
-use lib.ListN.{length, take, drop, set, length-append, length-drop}
-use lib.Seq.{set-split, length-take-le, take-at, drop-append-add, drop-drop}
+use mathlib.Core.List.{List, [], _∷_, _++_, append-assoc, append-nil}
+use lib.ListN.{length, take, drop, getD, set, take-append-drop, length-append, length-drop}
+use lib.Seq.{set-split, length-take-le, take-all, take-at, take-suc, drop-append-add, drop-drop}
 use Rattle.command.specs.Decimal.{largest, digit-byte, printed}
+use Rattle.command.specs.Command.{space}
+use Rattle.command.specs.Printed.{spaced}
 use Rattle.command.specs.Written.{written}
-use Rattle.command.proofs.Digits.{printed-digit, printed-more}
+use Rattle.command.proofs.Digits.{printed-digit, printed-more, printed-length}
 
 module _ (out : List ℕ) (at : ℕ) where
   pub written-byte : (b : ℕ) → at < length out → set out at b ≡ written out at (b ∷ [])
@@ -63,3 +65,83 @@ module _ (out : List ℕ) (at n : ℕ) where
     last-digit-written fits now end e f =
         let l = one-more-digit in
         rw (e, f) (written-then out at (printed (n / 10)) (digit-byte (n % 10)) (omega arith) ∙ ap (written out at) (sym (printed-more n h small)))
+
+-- ---- bytes one after another
+
+pub written-nothing : (out : List ℕ) (at : ℕ) → out ≡ written out at []
+unfolding written
+written-nothing out at = sym (ap (λ (k : ℕ). take at out ++ drop k out) (add-zero at) ∙ take-append-drop at out)
+
+module _ (out bytes : List ℕ) (at i : ℕ) (fits : at + length bytes ≤ length out) where
+  pub next-byte : i < length bytes → (now : List ℕ) → now ≡ written out at (take i bytes)
+      → set now (at + i) (getD bytes i 0) ≡ written out at (take (i + 1) bytes)
+  next-byte h now e =
+      let l : length (take i bytes) ≡ i = length-take-le i bytes (omega arith) in
+      ap (λ (w : List ℕ). set w (at + i) (getD bytes i 0)) e
+      ∙ ap (λ (k : ℕ). set (written out at (take i bytes)) (at + k) (getD bytes i 0)) (sym l)
+      ∙ written-then out at (take i bytes) (getD bytes i 0) (omega arith)
+      ∙ ap (written out at) (sym (ap (λ (k : ℕ). take k bytes) (add-one i) ∙ take-suc bytes i 0 h))
+
+-- ---- numbers, each after a space
+
+spaced-more : (xs : List ℕ) (n : ℕ) → spaced (xs ++ (n ∷ [])) ≡ spaced xs ++ (space ∷ printed n)
+unfolding spaced
+spaced-more [] n = append-nil (space ∷ printed n)
+spaced-more (x ∷ xs) n =
+    ap (λ (s : List ℕ). (space ∷ printed x) ++ s) (spaced-more xs n) ∙ sym (append-assoc (space ∷ printed x) (spaced xs) (space ∷ printed n))
+
+-- the first i numbers are printed, up to the place `at`
+pub record Spaced (out : List ℕ) (start : ℕ) (numbers now : List ℕ) (at i : ℕ) : Type 0 where
+  pub within : i ≤ length numbers
+  pub place : at ≡ start + length (spaced (take i numbers))
+  pub bytes : now ≡ written out start (spaced (take i numbers))
+  pub short : length (spaced (take i numbers)) ≤ 11 * i
+
+pub none-spaced : (out : List ℕ) (start : ℕ) (numbers : List ℕ) → Spaced out start numbers out start 0
+unfolding spaced
+none-spaced out start numbers = record { within = omega arith; place = omega arith; bytes = written-nothing out start; short = omega arith }
+
+module _ (out : List ℕ) (start : ℕ) (numbers now : List ℕ) (at i : ℕ) (fits : start + 11 * length numbers ≤ length out)
+    (r : Spaced out start numbers now at i) where
+  pub same : length now ≡ length out
+  same = ap length (r .bytes) ∙ length-written out start (spaced (take i numbers)) (omega (arith, r .within, r .short))
+
+  pub all-spaced : length numbers ≤ i → (at ≡ start + length (spaced numbers)) × (now ≡ written out start (spaced numbers))
+  all-spaced h =
+      let e : take i numbers ≡ numbers = take-all i numbers h in
+      (r .place ∙ ap (λ (s : List ℕ). start + length (spaced s)) e, r .bytes ∙ ap (λ (s : List ℕ). written out start (spaced s)) e)
+
+  module _ (h : i < length numbers) (small : getD numbers i 0 ≤ largest) where
+    abbrev number : ℕ
+    number = getD numbers i 0
+
+    pub room : at + 1 + length (printed number) ≤ length out
+    room = omega (arith, printed-length number small, r .place, r .short)
+
+    after : spaced (take (i + 1) numbers) ≡ spaced (take i numbers) ++ (space ∷ printed number)
+    after = ap spaced (ap (λ (k : ℕ). take k numbers) (add-one i) ∙ take-suc numbers i 0 h) ∙ spaced-more (take i numbers) number
+
+    with-space : set now at space ≡ written out start (spaced (take i numbers) ++ (space ∷ []))
+    with-space =
+        ap (λ (w : List ℕ). set w at space) (r .bytes) ∙ ap (λ (k : ℕ). set (written out start (spaced (take i numbers))) k space) (r .place)
+        ∙ written-then out start (spaced (take i numbers)) space (omega (arith, room, r .place))
+
+    pub next-spaced : (last : List ℕ) (end : ℕ) → last ≡ written (set now at space) (at + 1) (printed number) → end ≡ at + 1 + length (printed number)
+        → Spaced out start numbers last end (i + 1)
+    next-spaced last end e f =
+        let x : List ℕ = spaced (take i numbers) in
+        let l : length (x ++ (space ∷ [])) ≡ length x + 1 = length-append x (space ∷ []) in
+        let m : length (spaced (take (i + 1) numbers)) ≡ length x + (1 + length (printed number)) = ap length after ∙ length-append x (space ∷ printed number) ∙ omega arith in
+        record {
+          within = omega arith;
+          place = omega (arith, r .place);
+          bytes = e ∙ ap (λ (w : List ℕ). written w (at + 1) (printed number)) with-space
+              ∙ ap (λ (k : ℕ). written (written out start (x ++ (space ∷ []))) k (printed number)) (omega-place l)
+              ∙ written-more out start (x ++ (space ∷ [])) (omega (arith, room, r .place)) (printed number) (omega (arith, room, r .place))
+              ∙ ap (written out start) (append-assoc x (space ∷ []) (printed number) ∙ sym after);
+          short = omega (arith, printed-length number small, r .short);
+        }
+      where
+        omega-place : length (spaced (take i numbers) ++ (space ∷ [])) ≡ length (spaced (take i numbers)) + 1
+            → at + 1 ≡ start + length (spaced (take i numbers) ++ (space ∷ []))
+        omega-place l = omega (arith, r .place)

@@ -38,9 +38,9 @@ state-word Reject = 114 ∷ 101 ∷ 106 ∷ 101 ∷ 99 ∷ 116 ∷ 101 ∷ 100 �
 -- ---- the replies
 
 -- the numbers, each after a space
-abbrev pub spaced : List ℕ → List ℕ
+unfoldable pub spaced : List ℕ → List ℕ
 spaced [] = []
-spaced (n ∷ ns) = command.space ∷ (printed n ++ spaced ns)
+spaced (n ∷ ns) = (command.space ∷ printed n) ++ spaced ns
 
 abbrev pub refusal : ℕ → List ℕ
 refusal n = no-word ++ spaced (n ∷ [])

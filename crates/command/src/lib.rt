@@ -1,4 +1,5 @@
 // One line of input to one reply on a sheet. Document 01, "Program lots".
+mod arguments;
 mod decimal;
 mod fields;
 mod printing;
