@@ -21,7 +21,7 @@ and-right : (a b : Bool) → (a && b) ≡ true → b ≡ true
 and-right true b e = e
 and-right false b e = cc
 
-and-false : (b : Bool) → (b && false) ≡ false
+pub and-false : (b : Bool) → (b && false) ≡ false
 and-false true = refl
 and-false false = refl
 

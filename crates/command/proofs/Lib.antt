@@ -2,4 +2,5 @@
 pub mod Digits
 pub mod OneField
 mod OneNumber
+mod Letters
 mod Writing

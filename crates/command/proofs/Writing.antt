@@ -9,7 +9,7 @@ use lib.ListN.{length, take, drop, getD, set, take-append-drop, length-append, l
 use lib.Seq.{set-split, length-take-le, take-all, take-at, take-suc, drop-append-add, drop-drop}
 use Rattle.command.specs.Decimal.{largest, digit-byte, printed}
 use Rattle.command.specs.Command.{space}
-use Rattle.command.specs.Printed.{spaced}
+use Rattle.command.specs.Printed.{spaced, end-of-line, reply-line}
 use Rattle.command.specs.Written.{written}
 use Rattle.command.proofs.Digits.{printed-digit, printed-more, printed-length}
 
@@ -106,10 +106,13 @@ module _ (out : List ℕ) (start : ℕ) (numbers now : List ℕ) (at i : ℕ) (f
   pub same : length now ≡ length out
   same = ap length (r .bytes) ∙ length-written out start (spaced (take i numbers)) (omega (arith, r .within, r .short))
 
-  pub all-spaced : length numbers ≤ i → (at ≡ start + length (spaced numbers)) × (now ≡ written out start (spaced numbers))
+  pub all-spaced : length numbers ≤ i
+      → ((at ≡ start + length (spaced numbers)) × (at ≤ start + 11 * length numbers)) × (now ≡ written out start (spaced numbers))
   all-spaced h =
-      let e : take i numbers ≡ numbers = take-all i numbers h in
-      (r .place ∙ ap (λ (s : List ℕ). start + length (spaced s)) e, r .bytes ∙ ap (λ (s : List ℕ). written out start (spaced s)) e)
+      let e : take i numbers ≡ numbers = take-all i numbers h in (
+        (r .place ∙ ap (λ (s : List ℕ). start + length (spaced s)) e, omega (arith, r .place, r .short, r .within)),
+        r .bytes ∙ ap (λ (s : List ℕ). written out start (spaced s)) e,
+      )
 
   module _ (h : i < length numbers) (small : getD numbers i 0 ≤ largest) where
     abbrev number : ℕ
@@ -145,3 +148,36 @@ module _ (out : List ℕ) (start : ℕ) (numbers now : List ℕ) (at i : ℕ) (f
         omega-place : length (spaced (take i numbers) ++ (space ∷ [])) ≡ length (spaced (take i numbers)) + 1
             → at + 1 ≡ start + length (spaced (take i numbers) ++ (space ∷ []))
         omega-place l = omega (arith, r .place)
+
+-- ---- a line: a word, numbers and the byte 10
+
+module _ (out word numbers first : List ℕ) (after : ℕ) (last : List ℕ) (end : ℕ)
+    (fits : length word + (11 * length numbers + 1) ≤ length out) (e : first ≡ written out 0 word) (f : after ≡ 0 + length word)
+    (g : last ≡ written first after (spaced numbers)) (h : end ≡ after + length (spaced numbers)) (short : end ≤ after + 11 * length numbers) where
+  both : length (word ++ spaced numbers) ≡ length word + length (spaced numbers)
+  both = length-append word (spaced numbers)
+
+  pub first-length : length first ≡ length out
+  first-length = ap length e ∙ length-written out 0 word (omega arith)
+
+  so-far : last ≡ written out 0 (word ++ spaced numbers)
+  so-far =
+      g ∙ ap (λ (w : List ℕ). written w after (spaced numbers)) e ∙ ap (λ (k : ℕ). written (written out 0 word) k (spaced numbers)) f
+      ∙ written-more out 0 word (omega arith) (spaced numbers) (omega arith)
+
+  place : end ≡ 0 + length (word ++ spaced numbers)
+  place = omega (arith, both)
+
+  pub line-room : end < length last
+  line-room = omega (arith, ap length so-far ∙ length-written out 0 (word ++ spaced numbers) (omega (arith, both)))
+
+  pub line-length : end + 1 ≡ length (reply-line word numbers)
+  unfolding reply-line
+  line-length = omega (arith, place, both, length-append word (spaced numbers ++ (end-of-line ∷ [])), length-append (spaced numbers) (end-of-line ∷ []))
+
+  pub line-written : set last end end-of-line ≡ written out 0 (reply-line word numbers)
+  unfolding reply-line
+  line-written =
+      ap (λ (w : List ℕ). set w end end-of-line) so-far ∙ ap (λ (k : ℕ). set (written out 0 (word ++ spaced numbers)) k end-of-line) place
+      ∙ written-then out 0 (word ++ spaced numbers) end-of-line (omega (arith, both))
+      ∙ ap (written out 0) (append-assoc word (spaced numbers) (end-of-line ∷ []))

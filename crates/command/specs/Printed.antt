@@ -1,4 +1,4 @@
--- What is printed for each reply, without the byte 10. Document 01, "Program lots".
+-- What is printed for each reply: a line with a word and numbers. Document 01, "Program lots".
 use Prim.Native.Nat.{ℕ}
 use mathlib.Core.Path.{_≡_}
 use mathlib.Core.Option.{Option, none, some}
@@ -42,19 +42,25 @@ unfoldable pub spaced : List ℕ → List ℕ
 spaced [] = []
 spaced (n ∷ ns) = (command.space ∷ printed n) ++ spaced ns
 
-abbrev pub refusal : ℕ → List ℕ
-refusal n = no-word ++ spaced (n ∷ [])
+abbrev pub end-of-line : ℕ
+end-of-line = 10
 
-unfoldable pub done-printed : Done → List ℕ
-done-printed done.Ok = ok-word
+unfoldable pub reply-line : List ℕ → List ℕ → List ℕ
+reply-line word ns = word ++ (spaced ns ++ (end-of-line ∷ []))
+
+abbrev pub refusal : ℕ → List ℕ
+refusal n = reply-line no-word (n ∷ [])
+
+abbrev pub done-printed : Done → List ℕ
+done-printed done.Ok = reply-line ok-word []
 done-printed (done.Refused n) = refusal n
 
-unfoldable pub look-printed : Looked → List ℕ
-look-printed (looked.Shown s) = state-word (s .answer) ++ spaced (s .units ∷ s .good ∷ s .marginal ∷ s .bad ∷ [])
+abbrev pub look-printed : Looked → List ℕ
+look-printed (looked.Shown s) = reply-line (state-word (s .answer)) (s .units ∷ s .good ∷ s .marginal ∷ s .bad ∷ [])
 look-printed (looked.Refused n) = refusal n
 
-unfoldable pub tally-printed : Tallied → List ℕ
-tally-printed (tallied.Totals t) = tally-word ++ spaced (t .accepted ∷ t .rejected ∷ t .good ∷ t .marginal ∷ t .bad ∷ [])
+abbrev pub tally-printed : Tallied → List ℕ
+tally-printed (tallied.Totals t) = reply-line tally-word (t .accepted ∷ t .rejected ∷ t .good ∷ t .marginal ∷ t .bad ∷ [])
 tally-printed (tallied.Refused n) = refusal n
 
 -- ---- a line's reply, and the words that it leaves

@@ -3,12 +3,15 @@ use Prim.Native.Nat.{ℕ}
 use mathlib.Core.Bool.{cond}
 use mathlib.Core.Option.{Option, none, some}
 use mathlib.Core.List.{List}
-use lib.ListN.{length}
+use lib.ListN.{length, take}
 use lib.Dec.{leb}
 use Rattle.command.specs.declared.decimal.Number.{Number}
 use Rattle.command.specs.declared.decimal.Number.the-variants as number
 use Rattle.command.specs.declared.arguments.Count.{Count}
 use Rattle.command.specs.declared.arguments.Count.the-variants as count
+use Rattle.command.specs.declared.reading.Command.{Command}
+use Rattle.command.specs.declared.reading.Command.the-variants as code
+use Rattle.command.specs.Command as command
 
 abbrev pub as-number : Option ℕ → Number
 as-number none = number.Bad
@@ -22,3 +25,14 @@ most-numbers = 35
 abbrev pub as-count : Option (List ℕ) → Count
 as-count none = count.Bad
 as-count (some ns) = cond (leb (length ns) most-numbers) (count.Numbers (length ns)) count.Bad
+
+-- the command, with the numbers in the list beside it
+abbrev pub meaning : Command → List ℕ → Option command.Command
+meaning (code.Fresh n) list = some (command.fresh (take n list))
+meaning (code.Open lot) list = some (command.opening lot)
+meaning (code.Inspect lot class) list = some (command.inspecting lot class)
+meaning (code.Strike lot) list = some (command.striking lot)
+meaning (code.Look lot) list = some (command.looking lot)
+meaning (code.Close lot) list = some (command.closing lot)
+meaning code.Tally list = some command.tallying
+meaning code.Bad list = none

@@ -3,3 +3,5 @@ mod arguments;
 mod decimal;
 mod fields;
 mod printing;
+mod reading;
+mod replies;

@@ -38,7 +38,7 @@ pub fn put_bytes(out: &mut [u8], start: usize, bytes: &[u8]) -> usize
 // Prints numbers, each after a space, from a place on. The result is the place after them.
 pub fn put_numbers(out: &mut [u8], start: usize, numbers: &[u32]) -> usize
     requires { ⌜ start + 11 * length (now numbers) ≤ length (now out) ⌝ }
-    ensures { λ r. ⌜ r ≡ start + length (spaced (now (numbers .entry))) ⌝ }
+    ensures { λ r. ⌜ (r ≡ start + length (spaced (now (numbers .entry)))) × (r ≤ start + 11 * length (now (numbers .entry))) ⌝ }
     ensures { λ _. ⌜ now (out .exit) ≡ written (now (out .entry)) start (spaced (now (numbers .entry))) ⌝ }
 {
     let mut at = start;
