@@ -4,3 +4,4 @@ pub mod OneField
 mod OneNumber
 mod Letters
 mod Writing
+mod Answers

@@ -36,3 +36,14 @@ meaning (code.Look lot) list = some (command.looking lot)
 meaning (code.Close lot) list = some (command.closing lot)
 meaning code.Tally list = some command.tallying
 meaning code.Bad list = none
+
+-- how many numbers of the list a command takes as a plan
+abbrev pub plan-numbers : Command → ℕ
+plan-numbers (code.Fresh n) = n
+plan-numbers (code.Open lot) = 0
+plan-numbers (code.Inspect lot class) = 0
+plan-numbers (code.Strike lot) = 0
+plan-numbers (code.Look lot) = 0
+plan-numbers (code.Close lot) = 0
+plan-numbers code.Tally = 0
+plan-numbers code.Bad = 0

@@ -6,7 +6,7 @@ ghost use mathlib.Core.Path.{_≡_};
 ghost use Prim.Native.Nat.{_≤_};
 ghost use lib.ListN.{length, take};
 ghost use Rattle.command.specs.Command.{whole-stages, forms, by-letter, command};
-ghost use Rattle.command.specs.Read.{most-numbers, meaning};
+ghost use Rattle.command.specs.Read.{most-numbers, meaning, plan-numbers};
 
 // A command; of Fresh, how many numbers the plan has, which are in a list beside it.
 pub enum Command {
@@ -36,7 +36,7 @@ fn whole_stages(n: usize) -> bool
 // The command of a letter and so many numbers.
 fn command_of(letter: u8, n: usize, list: &[u32]) -> Command
     requires { ⌜ (n ≤ most-numbers) × (length (now list) ≡ most-numbers) ⌝ }
-    ensures { λ r. ⌜ by-letter forms letter (take n (now (list .entry))) ≡ meaning r (now (list .entry)) ⌝ }
+    ensures { λ r. ⌜ (by-letter forms letter (take n (now (list .entry))) ≡ meaning r (now (list .entry))) × (plan-numbers r ≤ most-numbers) ⌝ }
 {
     if letter == b'p' {
         if whole_stages(n) {
@@ -77,7 +77,7 @@ fn command_of(letter: u8, n: usize, list: &[u32]) -> Command
 // Reads a line. The list takes its numbers.
 pub fn read_command(line: &[u8], list: &mut [u32]) -> Command
     requires { ⌜ length (now list) ≡ most-numbers ⌝ }
-    ensures { λ r. ⌜ command (now (line .entry)) ≡ meaning r (now (list .exit)) ⌝ }
+    ensures { λ r. ⌜ (command (now (line .entry)) ≡ meaning r (now (list .exit))) × (plan-numbers r ≤ most-numbers) ⌝ }
 {
     if 255 < line.len() {
         return Command::Bad;

@@ -1,10 +1,14 @@
 // What is printed for each reply. Document 01, "Program lots".
 use crate::printing::put_bytes;
 use crate::printing::put_numbers;
+use plan::Answer;
+use sheet::Done;
+use sheet::Looked;
+use sheet::Tallied;
 ghost use mathlib.Core.Path.{_≡_};
 ghost use Prim.Native.Nat.{_+_, _*_, _≤_};
 ghost use lib.ListN.{length};
-ghost use Rattle.command.specs.Printed.{reply-line};
+ghost use Rattle.command.specs.Printed.{reply-line, refusal, done-printed, look-printed, tally-printed};
 ghost use Rattle.command.specs.Written.{written};
 
 // Prints a line with a word and numbers. The result is the number of its bytes.
@@ -17,4 +21,58 @@ fn put_line(out: &mut [u8], word: &[u8], numbers: &[u32]) -> usize
     let end = put_numbers(out, after, numbers);
     out[end] = b'\n';
     end + 1
+}
+
+// Each of these prints a reply's line. The result is the number of its bytes.
+pub fn put_refusal(out: &mut [u8], n: u32) -> usize
+    requires { ⌜ 64 ≤ length (now out) ⌝ }
+    ensures { λ r. ⌜ r ≡ length (refusal n) ⌝ }
+    ensures { λ _. ⌜ now (out .exit) ≡ written (now (out .entry)) 0 (refusal n) ⌝ }
+{
+    let numbers = [n];
+    put_line(out, b"no", &numbers)
+}
+
+pub fn put_done(out: &mut [u8], done: Done) -> usize
+    requires { ⌜ 64 ≤ length (now out) ⌝ }
+    ensures { λ r. ⌜ r ≡ length (done-printed done) ⌝ }
+    ensures { λ _. ⌜ now (out .exit) ≡ written (now (out .entry)) 0 (done-printed done) ⌝ }
+{
+    match done {
+        Done::Ok => put_line(out, b"ok", &[]),
+        Done::Refused(n) => put_refusal(out, n),
+    }
+}
+
+pub fn put_look(out: &mut [u8], looked: Looked) -> usize
+    requires { ⌜ 64 ≤ length (now out) ⌝ }
+    ensures { λ r. ⌜ r ≡ length (look-printed looked) ⌝ }
+    ensures { λ _. ⌜ now (out .exit) ≡ written (now (out .entry)) 0 (look-printed looked) ⌝ }
+{
+    match looked {
+        Looked::Refused(n) => put_refusal(out, n),
+        Looked::Shown(s) => {
+            let numbers = [s.units, s.good, s.marginal, s.bad];
+            let answer = s.answer;
+            match answer {
+                Answer::GoOn => put_line(out, b"undecided", &numbers),
+                Answer::Accept => put_line(out, b"accepted", &numbers),
+                Answer::Reject => put_line(out, b"rejected", &numbers),
+            }
+        }
+    }
+}
+
+pub fn put_tally(out: &mut [u8], tallied: Tallied) -> usize
+    requires { ⌜ 64 ≤ length (now out) ⌝ }
+    ensures { λ r. ⌜ r ≡ length (tally-printed tallied) ⌝ }
+    ensures { λ _. ⌜ now (out .exit) ≡ written (now (out .entry)) 0 (tally-printed tallied) ⌝ }
+{
+    match tallied {
+        Tallied::Refused(n) => put_refusal(out, n),
+        Tallied::Totals(t) => {
+            let numbers = [t.accepted, t.rejected, t.good, t.marginal, t.bad];
+            put_line(out, b"tally", &numbers)
+        }
+    }
 }

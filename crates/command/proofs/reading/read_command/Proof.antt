@@ -11,10 +11,10 @@ use Rattle.command.proofs.reading.read_command.Statement.{statement}
 use Rattle.command.proofs.reading.read_command.Tie as tie
 
 returns : tie.Need-returns
-returns c = too-long (c .before .before .before .args .line .now) (c .if1 .taken)
+returns c = (too-long (c .before .before .before .args .line .now) (c .if1 .taken), omega arith)
 
 returns-2 : tie.Need-returns-2
-returns-2 c = no-letter-field (c .before .before .before .before .before .args .line .now) (c .before .before .if1 .left) (λ q. c .if2 .taken (c .before .field-end .ensures ∙ q))
+returns-2 c = (no-letter-field (c .before .before .before .before .before .args .line .now) (c .before .before .if1 .left) (λ q. c .if2 .taken (c .before .field-end .ensures ∙ q)), omega arith)
 
 read-numbers-requires : tie.Need-read-numbers-requires
 read-numbers-requires c κs =
@@ -34,12 +34,14 @@ command-of-requires : tie.Need-command-of-requires
 command-of-requires c κs = (read (c .before) .0, c .before .before .before .before .before .before .before .read-numbers .kept .1 .1 .0 ∙ c .before .before .before .before .before .before .before .before .before .before .before .before .before .before .pre)
 
 returns-3 : tie.Need-returns-3
-returns-3 c =
-    bad-numbers (c .before .before .before .before .before .before .before .before .before .before .before .args .line .now) (c .before .before .before .before .before .before .before .before .if1 .left) (sym (c .before .before .before .before .before .before .before .field-end .ensures) ∙ c .before .before .before .before .before .before .if2 .left)
-    (sym (c .enum-told .given .1) ∙ c .before .before .before .before .read-numbers .ensures .0)
+returns-3 c = (
+  bad-numbers (c .before .before .before .before .before .before .before .before .before .before .before .args .line .now) (c .before .before .before .before .before .before .before .before .if1 .left) (sym (c .before .before .before .before .before .before .before .field-end .ensures) ∙ c .before .before .before .before .before .before .if2 .left)
+      (sym (c .enum-told .given .1) ∙ c .before .before .before .before .read-numbers .ensures .0),
+  omega arith,
+)
 
 returns-4 : tie.Need-returns-4
-returns-4 c = read (c .before .before) .1 ∙ c .command-of .ensures
+returns-4 c = (read (c .before .before) .1 ∙ c .command-of .ensures .0, c .command-of .ensures .1)
 
 pub read-command-spec : {M : Type 1} → statement M
 read-command-spec =

@@ -1,0 +1,32 @@
+// A line answered on a sheet: the command is read, its call is made, and its reply is printed. Document 01,
+// "Program lots".
+use crate::reading::Command;
+use crate::reading::read_command;
+use crate::replies::put_done;
+use crate::replies::put_look;
+use crate::replies::put_refusal;
+use crate::replies::put_tally;
+ghost use mathlib.Core.Path.{_≡_};
+ghost use lib.ListN.{length};
+ghost use Rattle.command.specs.Printed.{answer};
+ghost use Rattle.command.specs.Written.{written};
+
+// Answers a line, which is without the byte 10. The result is the number of bytes printed; the others of `out`
+// stay as they are.
+pub fn answer(line: &[u8], sheet: &mut [u32], out: &mut [u8; 64]) -> usize
+    ensures { λ r. ⌜ r ≡ length (answer (now (line .entry)) (now (sheet .entry)) .reply) ⌝ }
+    ensures { λ _. ⌜ now (out .exit) ≡ written (now (out .entry)) 0 (answer (now (line .entry)) (now (sheet .entry)) .reply) ⌝ }
+    ensures { λ _. ⌜ now (sheet .exit) ≡ answer (now (line .entry)) (now (sheet .entry)) .words ⌝ }
+{
+    let mut list = [0u32; 35];
+    match read_command(line, &mut list) {
+        Command::Fresh(n) => put_done(out, sheet::fresh(sheet, &list[..n])),
+        Command::Open(lot) => put_done(out, sheet::open(sheet, lot)),
+        Command::Inspect(lot, class) => put_done(out, sheet::inspect(sheet, lot, class)),
+        Command::Strike(lot) => put_done(out, sheet::strike(sheet, lot)),
+        Command::Look(lot) => put_look(out, sheet::look(sheet, lot)),
+        Command::Close(lot) => put_done(out, sheet::close(sheet, lot)),
+        Command::Tally => put_tally(out, sheet::tally(sheet)),
+        Command::Bad => put_refusal(out, 16),
+    }
+}
