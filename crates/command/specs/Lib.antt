@@ -4,3 +4,4 @@ pub mod Command
 pub mod Printed
 pub mod Fields
 pub mod Written
+pub mod Laws

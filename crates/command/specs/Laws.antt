@@ -1,0 +1,16 @@
+-- What holds of every line and every sheet: statements alone, proved in proofs/LineLaws.antt.
+use Prim.Native.Nat.{ℕ}
+use mathlib.Core.Path.{_≡_}
+use mathlib.Core.Option.{none, some}
+use mathlib.Core.List.{List}
+use Rattle.command.specs.Command.{Command, command}
+use Rattle.command.specs.Printed.{performed, refusal, not-a-command, answer}
+
+pub record Line-laws (line w : List ℕ) : Type 0 where
+  -- a line is not two commands
+  pub at-most-one : (c d : Command) → command line ≡ some c → command line ≡ some d → c ≡ d
+  -- a command makes its call
+  pub makes-call : (c : Command) → command line ≡ some c → answer line w ≡ performed c w
+  -- any other line gets 16 and makes no call: every word stays
+  pub gets-sixteen : command line ≡ none → answer line w .reply ≡ refusal not-a-command
+  pub no-call : command line ≡ none → answer line w .words ≡ w
