@@ -2,12 +2,8 @@
 use Prim.Native.Nat.{ℕ}
 use mathlib.Core.Path.{_≡_, refl, ap, sym, _∙_}
 use mathlib.Core.Option.{none, some}
-use mathlib.Core.Bool.{Bool, true, false, cond}
-use mathlib.Core.List.{List, [], _∷_}
+use mathlib.Core.List.{List}
 use lib.ListN.{length}
-use Rattle.plan.specs.Refusal.{Refusal}
-use Rattle.sheet.specs.declared.reply.Looked.the-variants as looked
-use Rattle.sheet.specs.declared.reply.Tallied.the-variants as tallied
 use Rattle.sheet.specs.Calls as calls
 use Rattle.sheet.specs.Calls.{Outcome}
 use Rattle.command.specs.Command as command
@@ -68,22 +64,3 @@ module _ (w : List ℕ) where
   pub tallying-made : performed command.tallying w ≡ in-bytes tally-printed (calls.tally w)
   unfolding performed
   tallying-made = refl
-
--- ---- look and tally write nothing
-
-no-word-changes : {R : Type 0} (refused : ℕ → R) (rows : List Refusal) (w : List ℕ) (reply : R) → calls.outcome refused rows w reply w .words ≡ w
-no-word-changes refused [] w reply = refl
-no-word-changes {R} refused (r ∷ rest) w reply = go (r .when) (no-word-changes refused rest w reply)
-  where
-    go : (t : Bool) → calls.outcome refused rest w reply w .words ≡ w
-        → cond t (record { reply = refused (r .number); words = w }) (calls.outcome refused rest w reply w) .words ≡ w
-    go true e = refl
-    go false e = e
-
-pub look-writes-nothing : (lot : ℕ) (w : List ℕ) → calls.look lot w .words ≡ w
-unfolding calls.look
-look-writes-nothing lot w = no-word-changes looked.Refused (calls.look-rows lot w) w _
-
-pub tally-writes-nothing : (w : List ℕ) → calls.tally w .words ≡ w
-unfolding calls.tally
-tally-writes-nothing w = no-word-changes tallied.Refused (calls.tally-rows w) w _

@@ -1,6 +1,6 @@
 -- The laws of a line. Assumes nothing.
 use Prim.Native.Nat.{ℕ}
-use mathlib.Core.Path.{_≡_, ap}
+use mathlib.Core.Path.{ap}
 use mathlib.Core.List.{List}
 use Rattle.sheet.specs.Calls.{Outcome}
 use Rattle.command.specs.Laws.{Line-laws}

@@ -1,5 +1,5 @@
 -- The numbers of a line, read one after another. Assumes nothing.
-use Prim.Native.Nat.{ℕ, zero, suc, _+_, _-_, _≤_, _<_}
+use Prim.Native.Nat.{ℕ, _+_, _-_, _≤_, _<_}
 use native.Mathlib.Omega.{arith}
 use native.Mathlib.Numerals.{add-one}
 use mathlib.Core.Path.{_≡_, refl, ap, sym, _∙_}
@@ -12,7 +12,7 @@ use Rattle.command.specs.declared.arguments.Count.{Count}
 use Rattle.command.specs.declared.arguments.Count.the-variants as count
 use Rattle.command.specs.declared.decimal.Number.the-variants as number
 use Rattle.command.specs.Decimal.{number}
-use Rattle.command.specs.Command.{fields, and-then, numbers}
+use Rattle.command.specs.Command.{and-then, numbers}
 use Rattle.command.specs.Fields.{until-space, fields-after}
 use Rattle.command.specs.Read.{most-numbers, as-number, as-count}
 use Rattle.command.proofs.OneField.{first-field, until-within}

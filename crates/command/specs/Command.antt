@@ -1,6 +1,5 @@
 -- Which lines are commands, and which commands they are. Document 01, "Program lots".
 use Prim.Native.Nat.{ℕ, _%_, _*_}
-use mathlib.Core.Path.{_≡_}
 use mathlib.Core.Bool.{Bool, cond, _&&_}
 use mathlib.Core.Option.{Option, none, some}
 use mathlib.Core.List.{List, [], _∷_}

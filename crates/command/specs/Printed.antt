@@ -1,6 +1,5 @@
 -- What is printed for each reply: a line with a word and numbers. Document 01, "Program lots".
 use Prim.Native.Nat.{ℕ}
-use mathlib.Core.Path.{_≡_}
 use mathlib.Core.Option.{Option, none, some}
 use mathlib.Core.List.{List, [], _∷_, _++_}
 use Rattle.plan.specs.declared.stage.Answer.{Answer}

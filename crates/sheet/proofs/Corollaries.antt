@@ -12,12 +12,13 @@ use borrow.Author.Tests.{eq-eqb, ne-eqb, eqb-true, leb-true, le-leb, le-ltb}
 use Rattle.plan.specs.Counts.{counts}
 use Rattle.plan.specs.Refusal.{Refusal, first-refusal, First}
 use Rattle.plan.proofs.Refusals.{refused-exactly}
+use Rattle.sheet.specs.declared.reply.Tallied.the-variants as tallied
 use Rattle.sheet.specs.declared.reply.Looked.the-variants as looked
-use Rattle.sheet.specs.Layout.{word, next, records, closed-lots, most-closed, next-unused, first-lot, first-free, first-record}
+use Rattle.sheet.specs.Layout.{word, next, records, closed-lots, most-closed, next-unused, first-lot, first-free, first-record, totals}
 use Rattle.sheet.specs.Contents.{Lot, Contents, history, find}
 use Rattle.sheet.specs.Holds.{Lots, Free, Holds}
 use Rattle.sheet.specs.Reply.{Reply, granted, refused, look-reply}
-use Rattle.sheet.specs.Calls.{full, lot, lot-answer, shown, look, look-rows}
+use Rattle.sheet.specs.Calls.{full, lot, lot-answer, shown, look, look-rows, tally, tally-rows}
 use Rattle.sheet.specs.History.{Call, opening, inspecting, striking, closing, looking, call, Histories, classes-of, without-last, after-grant, feed, run}
 use Rattle.sheet.specs.Demand3.{after}
 use Rattle.sheet.specs.Corollaries.{Ascending, Filled, Full-exactly, Intact, lot-of, Full-reply, Same-histories, Corollaries}
@@ -157,12 +158,16 @@ full-exactly {p} {w} {H} inv =
       inspected = λ f n c h e known on. reply-of inv (inspecting n c) ∙ rw (e, le-ltb 2 c known, on, filled-full w s (inv .holds) f);
     }
 
--- ---- look changes nothing
+-- ---- look and tally change nothing
 
-look-words : (n : ℕ) (w : List ℕ) → look n w .words ≡ w
+pub look-words : (n : ℕ) (w : List ℕ) → look n w .words ≡ w
 unfolding look
 look-words n w =
     by-rows looked.Refused w (looked.Shown (shown (lot-answer w (lot n w)) (counts (history (lot n w))))) w (λ o. o .words ≡ w) (λ m. refl) (look-rows n w) (λ none. refl)
+
+pub tally-words : (w : List ℕ) → tally w .words ≡ w
+unfolding tally
+tally-words w = by-rows tallied.Refused w (tallied.Totals (totals w)) w (λ o. o .words ≡ w) (λ m. refl) (tally-rows w) (λ none. refl)
 
 look-histories : (n : ℕ) (r : Reply) (H : Histories) → feed (looking n) r H ≡ H
 look-histories n (granted vs) H = refl

@@ -1,7 +1,7 @@
 -- `command::answer` meets its contract, command by command. Assumes nothing.
 use Prim.Native.Nat.{ℕ, _≤_}
 use native.Mathlib.Omega.{arith}
-use mathlib.Core.Path.{_≡_, ap, sym, _∙_}
+use mathlib.Core.Path.{ap, sym, _∙_}
 use mathlib.Core.List.{List}
 use lib.ListN.{length, take}
 use lib.Seq.{length-take-le}
@@ -15,7 +15,8 @@ use Rattle.command.specs.Command as command
 use Rattle.command.specs.Printed.{done-printed, look-printed, tally-printed}
 use Rattle.command.specs.Read.{most-numbers, meaning, plan-numbers}
 use Rattle.command.specs.Written.{written}
-use Rattle.command.proofs.Answers.{of-command, of-none, fresh-made, opening-made, inspecting-made, striking-made, looking-made, closing-made, tallying-made, look-writes-nothing, tally-writes-nothing, printed-length, printed-bytes, left-words}
+use Rattle.sheet.proofs.Corollaries.{look-words, tally-words}
+use Rattle.command.proofs.Answers.{of-command, of-none, fresh-made, opening-made, inspecting-made, striking-made, looking-made, closing-made, tallying-made, printed-length, printed-bytes, left-words}
 use Rattle.command.proofs.answering.answer.Statement.{statement}
 use Rattle.command.proofs.answering.answer.Tie as tie
 
@@ -89,7 +90,7 @@ returns-5 c =
       printed-length line w Looked look-printed (calls.look (x .0 .0) w) (e ∙ looking-made w (x .0 .0)) (c .before .look .result) (c .before .look .ensures) (c .put-look .result) (c .put-look .ensures .0),
       (
         printed-bytes line w Looked look-printed (calls.look (x .0 .0) w) (e ∙ looking-made w (x .0 .0)) (c .before .look .result) (c .before .look .ensures) (c .before .before .before .before .before .before .before .before .before .before .before .before .args .out .now) (c .put-look .last .0) (c .put-look .ensures .1),
-        left-words line w Looked look-printed (calls.look (x .0 .0) w) (e ∙ looking-made w (x .0 .0)) (c .before .look .result) (c .before .look .ensures) w (sym (look-writes-nothing (x .0 .0) w)),
+        left-words line w Looked look-printed (calls.look (x .0 .0) w) (e ∙ looking-made w (x .0 .0)) (c .before .look .result) (c .before .look .ensures) w (sym (look-words (x .0 .0) w)),
       ),
     )
 
@@ -115,7 +116,7 @@ returns-7 c =
       printed-length line w Tallied tally-printed (calls.tally w) (e ∙ tallying-made w) (c .before .tally .result) (c .before .tally .ensures) (c .put-tally .result) (c .put-tally .ensures .0),
       (
         printed-bytes line w Tallied tally-printed (calls.tally w) (e ∙ tallying-made w) (c .before .tally .result) (c .before .tally .ensures) (c .before .before .before .before .before .before .before .before .before .before .before .args .out .now) (c .put-tally .last .0) (c .put-tally .ensures .1),
-        left-words line w Tallied tally-printed (calls.tally w) (e ∙ tallying-made w) (c .before .tally .result) (c .before .tally .ensures) w (sym (tally-writes-nothing w)),
+        left-words line w Tallied tally-printed (calls.tally w) (e ∙ tallying-made w) (c .before .tally .result) (c .before .tally .ensures) w (sym (tally-words w)),
       ),
     )
 

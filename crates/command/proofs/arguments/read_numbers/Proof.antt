@@ -1,8 +1,8 @@
 -- `command::read_numbers` meets its contract. The loop's invariant is `Reading`. Assumes nothing.
 use Prim.Native.Nat.{_+_, _-_, _≤_}
 use native.Mathlib.Omega.{arith}
-use mathlib.Core.Path.{_≡_, sym, _∙_}
-use lib.ListN.{length, length-set, length-drop, drop}
+use mathlib.Core.Path.{sym, _∙_}
+use lib.ListN.{length, length-drop, drop}
 use borrow.Author.Needs.{needs}
 use Rattle.command.proofs.OneField.{until-within}
 use Rattle.command.proofs.OneNumber.{Reading, started, no-room, all-numbers, bad-number, next-number}

@@ -1,5 +1,4 @@
 -- `command::is_digit` meets its contract. Assumes nothing.
-use mathlib.Core.Path.{sym}
 use borrow.Author.Tests.{le-leb, lt-leb}
 use Rattle.command.proofs.decimal.is_digit.Statement.{statement}
 use Rattle.command.proofs.decimal.is_digit.Tie as tie

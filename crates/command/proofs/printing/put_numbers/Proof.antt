@@ -1,7 +1,6 @@
 -- `command::put_numbers` meets its contract. The loop's invariant is `Spaced`. Assumes nothing.
 use Prim.Native.Nat.{_-_, _≤_}
 use native.Mathlib.Omega.{arith}
-use mathlib.Core.Path.{_≡_, _∙_}
 use lib.ListN.{length, length-set, getD}
 use borrow.Author.Needs.{needs}
 use Rattle.command.specs.Decimal.{largest}

@@ -2,7 +2,7 @@
 use Prim.Native.Nat.{_≤_}
 use native.Mathlib.Omega.{arith}
 use mathlib.Core.Path.{_≡_, sym, _∙_}
-use lib.ListN.{length, take, getD}
+use lib.ListN.{take, getD}
 use borrow.Author.Needs.{needs}
 use Rattle.command.specs.Command.{forms, by-letter, command}
 use Rattle.command.specs.Read.{most-numbers}

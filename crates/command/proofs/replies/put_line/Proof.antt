@@ -1,7 +1,7 @@
 -- `command::put_line` meets its contract: a word, numbers, and the byte 10. Assumes nothing.
 use native.Mathlib.Omega.{arith}
-use mathlib.Core.Path.{_≡_, sym, _∙_}
-use lib.ListN.{length, length-set}
+use mathlib.Core.Path.{_∙_}
+use lib.ListN.{length-set}
 use borrow.Author.Needs.{needs}
 use Rattle.command.specs.Printed.{end-of-line}
 use Rattle.command.proofs.Writing.{line-room, line-length, line-written}
