@@ -3,7 +3,6 @@
 use Prim.Native.Nat.{_-_}
 use mathlib.Core.Path.{_≡_}
 use native.Mathlib.Omega.{arith}
-use borrow.Author.Needs.{needs}
 use borrow.Author.Tests.{ltb-true}
 use lib.ListN.{length, length-set}
 use Rattle.lots.proofs.add.Statement.{statement}

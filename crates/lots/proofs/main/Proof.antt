@@ -18,9 +18,6 @@ main-spec =
     Inv-loop
     μ-loop
     (λ c. tt)
-    (λ c. search needs)
-    (λ c. search needs)
-    (λ c. search needs)
     (λ c κs. tt)
     (λ c. search needs)
     (λ c. search needs)
