@@ -6,6 +6,8 @@
 //! - `reference cases` writes the seeded cases on stdout, the same at each run.
 //! - `reference answers` reads case lines on stdin and writes one answer line each.
 //! - `reference sheet-cases` and `reference sheet-answers`: alike, for calls on sheets.
+//! - `reference lots-script` writes a script for the program `lots`, and
+//!   `reference lots` answers a script on stdin.
 //! - `reference stats` says on stderr what the seeded cases cover.
 //! - `reference selftest` checks this program itself.
 //!
@@ -18,6 +20,8 @@ mod draw;
 mod earliest;
 mod edges;
 mod judge;
+mod lots;
+mod lots_script;
 mod plan;
 mod published;
 mod random;
@@ -29,7 +33,7 @@ mod sheet_damage;
 mod sheet_histories;
 mod stats;
 
-use std::io::{self, BufRead, BufWriter, Write};
+use std::io::{self, BufRead, BufWriter, Read, Write};
 use std::process::ExitCode;
 
 fn main() -> ExitCode {
@@ -38,9 +42,11 @@ fn main() -> ExitCode {
         Some("answers") => write_answers(),
         Some("sheet-cases") => write_lines(sheet_cases::all().into_iter().map(Ok)),
         Some("sheet-answers") => write_sheet_answers(),
+        Some("lots-script") => write_bytes(&lots_script::all()),
+        Some("lots") => write_lots(),
         Some("stats") => stats::write(),
         Some("selftest") => selftest::run().and_then(|()| sheet_histories::selftest()),
-        _ => Err("usage: reference [sheet-]cases | [sheet-]answers | stats | selftest".to_string()),
+        _ => Err("usage: reference [sheet-]cases | [sheet-]answers | lots-script | lots | stats | selftest".to_string()),
     };
     match done {
         Ok(()) => ExitCode::SUCCESS,
@@ -69,6 +75,17 @@ fn write_sheet_answers() -> Result<(), String> {
         let line = line.map_err(|error| error.to_string())?;
         run.answer(&line)
     }))
+}
+
+fn write_lots() -> Result<(), String> {
+    let mut input = Vec::new();
+    let read = io::stdin().lock().read_to_end(&mut input);
+    read.map_err(|error| error.to_string())?;
+    write_bytes(&lots::replies(&input))
+}
+
+fn write_bytes(bytes: &[u8]) -> Result<(), String> {
+    io::stdout().write_all(bytes).map_err(|error| error.to_string())
 }
 
 /// Writes lines up to the first error, so that what was answered is on stdout.

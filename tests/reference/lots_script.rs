@@ -1,0 +1,191 @@
+//! A script for the program `lots`: the listing of 01, each bad form of a line,
+//! each refusal that the program can give, a sheet filled and emptied, and random
+//! lines. The last line lacks its byte 10.
+
+use crate::random::Random;
+
+const LISTING: &str = "p 5 2 3 1 2\no 7\ni 7 1\ni 7 2\ni 7 2\nl 7\ni 7 0\nc 7\nt\n";
+
+const PLAN_A: &str = "p 5 2 3 1 2";
+const PLAN_B: &str = "p 10 0 3 0 3 1 5 6 5 6";
+
+pub fn all() -> Vec<u8> {
+    let mut script = Vec::new();
+    script.extend(b"t\no 1\ni 1 0\ns 1\nl 1\nc 1\np 0 0 0 0 0\nt\n");
+    script.extend(LISTING.bytes());
+    forms(&mut script);
+    refusals(&mut script);
+    filled(&mut script);
+    for seed in 1..=12 {
+        random(&mut script, seed);
+    }
+    script.extend(b"t");
+    script
+}
+
+fn line(script: &mut Vec<u8>, text: &str) {
+    script.extend(text.bytes());
+    script.push(10);
+}
+
+/// Lines of another form, among them lines at and past the length that a line may have.
+fn forms(script: &mut Vec<u8>) {
+    line(script, PLAN_A);
+    for text in [
+        "",
+        " ",
+        "o",
+        "o ",
+        "o 1 ",
+        " o 1",
+        "o  1",
+        "o 1 2",
+        "o +1",
+        "o -1",
+        "o 1a",
+        "o a",
+        "oo 1",
+        "O 1",
+        "x 1",
+        "o\t1",
+        "o 1\r",
+        "o 1\0",
+        "\0",
+        "o 12345678901",
+        "o 4294967296",
+        "o 9999999999",
+        "o 00000000001",
+        "i",
+        "i 1",
+        "i 1 ",
+        "i 1 2 3",
+        "i 1  2",
+        "s",
+        "s 1 1",
+        "l",
+        "l 1 1",
+        "c",
+        "c 1 1",
+        "t 1",
+        "t ",
+        " t",
+        "tt",
+        "p",
+        "p ",
+        "p 5 2 3 1",
+        "p 5 2 3 1 2 5",
+        "p 5 2 3 1 2 ",
+        "p  5 2 3 1 2",
+    ] {
+        line(script, text);
+    }
+    line(script, &format!("p{}", " 1".repeat(36)));
+    line(script, &format!("p{}", " 1".repeat(40)));
+    for text in [
+        "o 0000000001",
+        "o 4294967295",
+        "l 1",
+        "l 4294967295",
+        "i 1 256",
+        "i 1 4294967295",
+        "i 9 256",
+    ] {
+        line(script, text);
+    }
+    wide_plans(script);
+    for length in [254, 255, 256, 257, 300, 4095, 4096, 4097, 70_000] {
+        line(script, &"t".repeat(length));
+        line(script, &" ".repeat(length));
+    }
+}
+
+/// A plan of seven stages on a line of 255 bytes, which is a command, and of 256, which is not.
+fn wide_plans(script: &mut Vec<u8>) {
+    let plan: Vec<u32> = (0..7)
+        .flat_map(|i| {
+            if i < 6 {
+                [9, i, 9 + i, i, 9 + i]
+            } else {
+                [9, 15, 16, 15, 16]
+            }
+        })
+        .collect();
+    for length in [255, 256] {
+        let mut spare = length - 1 - 35 * 7;
+        let mut text = "p".to_string();
+        for number in &plan {
+            let more = spare.min(4);
+            spare -= more;
+            text.push_str(&format!(" {number:0width$}", width = 6 + more));
+        }
+        assert_eq!(text.len(), length);
+        line(script, &text);
+        line(script, "o 5");
+        line(script, "l 5");
+    }
+}
+
+/// Each refusal in turn, and what is granted around it; two plans.
+fn refusals(script: &mut Vec<u8>) {
+    for plan in [PLAN_A, PLAN_B] {
+        line(script, plan);
+        for text in [
+            "o 0", "o 3", "o 3", "o 2", "i 4 0", "i 4 3", "i 3 3", "s 3", "s 4", "l 4", "c 4",
+            "c 3", "i 0 0", "l 0",
+        ] {
+            line(script, text);
+        }
+        for _ in 0..12 {
+            line(script, "i 3 0");
+            line(script, "l 3");
+        }
+        for text in [
+            "i 3 3", "s 3", "l 3", "c 3", "i 3 0", "c 3", "t", "i 2 2", "i 2 2", "i 2 2", "l 2",
+            "c 2", "t",
+        ] {
+            line(script, text);
+        }
+        line(script, "p 5 2 3 1 3");
+        line(script, "t");
+    }
+}
+
+/// 4,085 records: 2,042 lots with a unit each and one lot more fill the sheet.
+fn filled(script: &mut Vec<u8>) {
+    line(script, "p 1 0 1 0 1");
+    for lot in 1..=2042 {
+        line(script, &format!("o {lot}"));
+        line(script, &format!("i {lot} {}", lot % 3));
+    }
+    for text in [
+        "o 2043", "o 2044", "i 2043 0", "i 1 0", "o 5", "l 2042", "c 2043",
+    ] {
+        line(script, text);
+    }
+    for lot in (1..=2042).rev() {
+        line(script, &format!("c {lot}"));
+    }
+    for text in ["t", "i 2043 0", "c 2043", "t", "o 1", "t"] {
+        line(script, text);
+    }
+}
+
+fn random(script: &mut Vec<u8>, seed: u64) {
+    let mut random = Random::new(seed);
+    line(
+        script,
+        random.pick(&[PLAN_A, PLAN_B, "p 3 0 2 0 2 4 2 3 1 2"]),
+    );
+    for _ in 0..150 {
+        let lot = random.between(0, 6);
+        let text = match random.index(12) {
+            0 | 1 => format!("o {lot}"),
+            2 => format!("s {lot}"),
+            3 => format!("c {lot}"),
+            4 | 5 => format!("l {lot}"),
+            6 => "t".to_string(),
+            _ => format!("i {lot} {}", random.between(0, 3)),
+        };
+        line(script, &text);
+    }
+}
