@@ -1,4 +1,4 @@
-// Decimal numbers, read and printed. Document 01, "Program lots".
+// Decimal numbers of a line. Document 01, "Program lots".
 ghost use mathlib.Core.Path.{_≡_};
 ghost use Rattle.command.specs.Decimal.{is-digit, number};
 ghost use Rattle.command.specs.Read.{as-number};
