@@ -2,6 +2,7 @@
 // are used, so that a damaged chain ends the walk.
 use crate::layout::FIRST_FREE;
 use crate::layout::FIRST_RECORD;
+use crate::layout::FREE_TAG;
 use crate::layout::NEXT_UNUSED;
 use crate::record::field_of;
 use crate::record::record_at;
@@ -150,7 +151,7 @@ fn is_free(sheet: &[u32], depth: u32, at: u32) -> bool
     if r.c != 0 {
         return false;
     }
-    r.d == 4294967295
+    r.d == FREE_TAG
 }
 
 // Is the chain of free records from `at` on whole, of this depth?

@@ -1,5 +1,6 @@
 // Freeing records: a freed record goes to the front of the free chain. Document 01, "Sheet".
 use crate::layout::FIRST_FREE;
+use crate::layout::FREE_TAG;
 use crate::record::field_of;
 use crate::record::put_record;
 ghost use mathlib.Core.Path.{_≡_};
@@ -8,9 +9,6 @@ ghost use mathlib.Core.Bool.{true};
 ghost use Rattle.sheet.specs.Read.{depth};
 ghost use Rattle.sheet.specs.Calls.{is-some, free-record, free-inspections};
 ghost use Rattle.sheet.specs.Writes.{In-words, Freeing, read-chain, chain};
-
-// The last word of every free record.
-pub const FREE_TAG: u32 = 4294967295;
 
 // The depth of the first free record; 0 if there is none.
 fn depth_of(sheet: &[u32]) -> u32

@@ -3,6 +3,7 @@ use crate::layout::ACCEPTED_LOTS;
 use crate::layout::BAD_UNITS;
 use crate::layout::GOOD_UNITS;
 use crate::layout::MARGINAL_UNITS;
+use crate::layout::MOST_CLOSED;
 use crate::layout::NEXT_UNUSED;
 use crate::layout::PLAN_START;
 use crate::layout::REJECTED_LOTS;
@@ -34,7 +35,7 @@ fn are_totals(sheet: &[u32]) -> bool
 {
     let lots = sheet[ACCEPTED_LOTS] as u64 + sheet[REJECTED_LOTS] as u64;
     let units = sheet[GOOD_UNITS] as u64 + sheet[MARGINAL_UNITS] as u64 + sheet[BAD_UNITS] as u64;
-    if 4000000 < lots {
+    if MOST_CLOSED < lots {
         return false;
     }
     units <= 1000 * lots

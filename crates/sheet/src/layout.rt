@@ -1,4 +1,4 @@
-// The places of the words in a sheet's header. Document 01, "Sheet".
+// The places of the words in a sheet's header, and the fixed numbers of a sheet. Document 01, "Sheet".
 pub const NEXT_UNUSED: usize = 0;
 
 pub const FIRST_LOT: usize = 1;
@@ -24,3 +24,9 @@ pub const STAGES_AND_TOTALS: usize = 40;
 
 // the first record after the header
 pub const FIRST_RECORD: u32 = 11;
+
+// the last word of every free record
+pub const FREE_TAG: u32 = 4294967295;
+
+// the closed lots that the totals may count
+pub const MOST_CLOSED: u64 = 4000000;

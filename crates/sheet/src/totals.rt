@@ -3,6 +3,7 @@ use crate::layout::ACCEPTED_LOTS;
 use crate::layout::BAD_UNITS;
 use crate::layout::GOOD_UNITS;
 use crate::layout::MARGINAL_UNITS;
+use crate::layout::MOST_CLOSED;
 use crate::layout::REJECTED_LOTS;
 use plan::Answer;
 use plan::Counts;
@@ -37,7 +38,7 @@ pub fn are_full(sheet: &[u32]) -> bool
     requires { ⌜ 48 ≤ length (now sheet) ⌝ }
     ensures { λ r. ⌜ r ≡ leb most-closed (closed-lots (now (sheet .entry))) ⌝ }
 {
-    4000000 <= sheet[ACCEPTED_LOTS] as u64 + sheet[REJECTED_LOTS] as u64
+    MOST_CLOSED <= sheet[ACCEPTED_LOTS] as u64 + sheet[REJECTED_LOTS] as u64
 }
 
 // Counts a lot closed with this answer, and its units.
