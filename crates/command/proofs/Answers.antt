@@ -4,8 +4,8 @@ use mathlib.Core.Path.{_≡_, refl, ap, sym, _∙_}
 use mathlib.Core.Option.{none, some}
 use mathlib.Core.List.{List}
 use lib.ListN.{length}
-use Rattle.sheet.specs.Calls as calls
-use Rattle.sheet.specs.Calls.{Outcome}
+use Rattle.sheetmodel.specs.Calls as calls
+use Rattle.sheetmodel.specs.Calls.{Outcome}
 use Rattle.command.specs.Command as command
 use Rattle.command.specs.Command.{Command, command}
 use Rattle.command.specs.Printed.{in-bytes, done-printed, look-printed, tally-printed, performed, refusal, not-a-command, answer}

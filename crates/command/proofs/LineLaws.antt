@@ -2,7 +2,7 @@
 use Prim.Native.Nat.{ℕ}
 use mathlib.Core.Path.{ap}
 use mathlib.Core.List.{List}
-use Rattle.sheet.specs.Calls.{Outcome}
+use Rattle.sheetmodel.specs.Calls.{Outcome}
 use Rattle.command.specs.Laws.{Line-laws}
 use Rattle.command.proofs.Answers.{of-command, of-none}
 

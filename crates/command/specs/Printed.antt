@@ -4,13 +4,13 @@ use mathlib.Core.Option.{Option, none, some}
 use mathlib.Core.List.{List, [], _∷_, _++_}
 use Rattle.plan.specs.declared.stage.Answer.{Answer}
 use Rattle.plan.specs.declared.stage.Answer.the-variants.{GoOn, Accept, Reject}
-use Rattle.sheet.specs.declared.reply.Done.{Done}
-use Rattle.sheet.specs.declared.reply.Done.the-variants as done
-use Rattle.sheet.specs.declared.reply.Looked.{Looked}
-use Rattle.sheet.specs.declared.reply.Looked.the-variants as looked
-use Rattle.sheet.specs.declared.reply.Tallied.{Tallied}
-use Rattle.sheet.specs.declared.reply.Tallied.the-variants as tallied
-use Rattle.sheet.specs.Calls.{Outcome, fresh, open-lot, inspect, strike, close, look, tally}
+use Rattle.sheetmodel.specs.declared.reply.Done.{Done}
+use Rattle.sheetmodel.specs.declared.reply.Done.the-variants as done
+use Rattle.sheetmodel.specs.declared.reply.Looked.{Looked}
+use Rattle.sheetmodel.specs.declared.reply.Looked.the-variants as looked
+use Rattle.sheetmodel.specs.declared.reply.Tallied.{Tallied}
+use Rattle.sheetmodel.specs.declared.reply.Tallied.the-variants as tallied
+use Rattle.sheetmodel.specs.Calls.{Outcome, fresh, open-lot, inspect, strike, close, look, tally}
 use Rattle.command.specs.Decimal.{printed}
 use Rattle.command.specs.Command as command
 

@@ -7,8 +7,8 @@ use Rattle.plan.specs.Plan.{stages}
 use Rattle.judge.specs.Judge.{judged, numbers}
 use Rattle.chance.specs.declared.answers.Bounded.the-variants as bounded
 use Rattle.chance.specs.Reply.{weights-of, chance-reply}
-use Rattle.sheet.specs.declared.reply.Estimate.{Estimate}
-use Rattle.sheet.specs.Estimate.{estimate-of}
+use Rattle.sheetmodel.specs.declared.reply.Estimate.{Estimate}
+use Rattle.sheetmodel.specs.Estimate.{estimate-of}
 
 -- that of the program
 abbrev pub plan-a : List ℕ

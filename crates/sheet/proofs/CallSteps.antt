@@ -13,20 +13,20 @@ use Rattle.plan.specs.Plan.{stages, admitted}
 use Rattle.plan.specs.Counts.{counts, units}
 use Rattle.plan.specs.Stopping.{earliest}
 use Rattle.plan.proofs.Promise.{counting}
-use Rattle.sheet.specs.declared.reply.Done.{Done}
-use Rattle.sheet.specs.declared.reply.Done.the-variants as done
-use Rattle.sheet.specs.declared.reply.Looked.the-variants as looked
-use Rattle.sheet.specs.declared.reply.Tallied.the-variants as tallied
+use Rattle.sheetmodel.specs.declared.reply.Done.{Done}
+use Rattle.sheetmodel.specs.declared.reply.Done.the-variants as done
+use Rattle.sheetmodel.specs.declared.reply.Looked.the-variants as looked
+use Rattle.sheetmodel.specs.declared.reply.Tallied.the-variants as tallied
 use Rattle.sheet.specs.declared.survey.Found.{Found}
 use Rattle.sheet.specs.declared.locating.Located.the-variants.{Refused}
-use Rattle.sheet.specs.Layout.{size-ok, newest, plan-words, totals, closed-lots, highest-class, most-closed}
-use Rattle.sheet.specs.Contents.{Lot, history, find, records-of}
-use Rattle.sheet.specs.Read.{undecided}
-use Rattle.sheet.specs.Calls.{Outcome, row, corrupt, on-sheet, lot, lot-answer, full, last-below, predecessor, new-record, open-lot, open-rows, with-lot, inspect, inspect-rows, with-inspection, strike, strike-rows, without-newest, close, close-rows, without-lot, look, look-rows, shown, tally, tally-rows}
+use Rattle.sheetmodel.specs.Layout.{size-ok, newest, plan-words, totals, closed-lots, highest-class, most-closed}
+use Rattle.sheetmodel.specs.Contents.{Lot, history, find, records-of}
+use Rattle.sheetmodel.specs.Read.{undecided}
+use Rattle.sheetmodel.specs.Calls.{Outcome, row, corrupt, on-sheet, lot, lot-answer, full, last-below, predecessor, new-record, open-lot, open-rows, with-lot, inspect, inspect-rows, with-inspection, strike, strike-rows, without-newest, close, close-rows, without-lot, look, look-rows, shown, tally, tally-rows}
 use Rattle.sheet.specs.Writes.{largest, In-words, Room, Striking, Closing, lot-at}
 use Rattle.sheet.specs.Survey.{found}
 use Rattle.sheet.specs.Locating.{found-on, located}
-use Rattle.sheet.proofs.HistoryLaws.{length-classes}
+use Rattle.sheetmodel.proofs.Promise.{length-classes}
 use Rattle.sheet.proofs.Sizes.{long-enough}
 use Rattle.sheet.proofs.Requires.{holds, inside, can-open, can-inspect, can-strike, lot-is, can-close, few-units}
 use Rattle.sheet.proofs.LocatedFacts.{Whole, With-lot, refused-by, absent, present}

@@ -14,12 +14,11 @@ use Rattle.plan.proofs.Promise.{counting}
 use Rattle.sheet.specs.declared.record.Record.{Record}
 use Rattle.sheet.specs.declared.chain.Chain.{Chain}
 use Rattle.sheet.specs.declared.chain.Chain.the-variants.{Cut, Whole}
-use Rattle.sheet.specs.Layout.{field, next, first-record}
-use Rattle.sheet.specs.Contents.{Inspection, classes}
-use Rattle.sheet.specs.Read.{guard, then, read-inspections}
+use Rattle.sheetmodel.specs.Layout.{field, next, first-record}
+use Rattle.sheetmodel.specs.Contents.{Inspection, classes}
+use Rattle.sheetmodel.specs.Read.{guard, then, read-inspections}
 use Rattle.sheet.specs.Survey.{record-at, is-inspection, may-go-on, next-test, tested, chain-of}
-use Rattle.sheet.proofs.HistoryLaws.{classes-cons, length-classes}
-use Rattle.sheet.proofs.Reading.{sound-inspections}
+use Rattle.sheetmodel.proofs.Promise.{classes-cons, length-classes, sound-inspections}
 
 -- what the chain of the older inspections gives with an inspection of class x after it
 abbrev pub after-older : List Stage → ℕ → ℕ → ℕ → Chain → Chain

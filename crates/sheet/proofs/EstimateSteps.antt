@@ -13,20 +13,20 @@ use Rattle.plan.specs.Plan.{stages}
 use Rattle.plan.specs.Counts.{counts, units, add-units}
 use Rattle.plan.specs.Stopping.{earliest}
 use Rattle.plan.proofs.Promise.{shape, promise, counting}
-use Rattle.sheet.specs.declared.reply.Estimate.{Estimate}
-use Rattle.sheet.specs.declared.reply.Estimated.the-variants as estimated
+use Rattle.sheetmodel.specs.declared.reply.Estimate.{Estimate}
+use Rattle.sheetmodel.specs.declared.reply.Estimated.the-variants as estimated
 use Rattle.sheet.specs.declared.survey.Found.{Found}
 use Rattle.sheet.specs.declared.locating.Located.the-variants.{Refused}
-use Rattle.sheet.specs.Layout.{size-ok, word, field, newest, next-unused, stage-count, first-record, plan-start, plan-words}
-use Rattle.sheet.specs.Contents.{Inspection, classes, history}
-use Rattle.sheet.specs.Holds.{Inspections}
-use Rattle.sheet.specs.Read.{undecided}
-use Rattle.sheet.specs.Calls.{row, corrupt, on-sheet, lot, lot-answer}
-use Rattle.sheet.specs.History.{without-last}
-use Rattle.sheet.specs.Estimate.{estimate-of, estimate-rows, estimate, units-of-class, without-unit}
+use Rattle.sheetmodel.specs.Layout.{size-ok, word, field, newest, next-unused, stage-count, first-record, plan-start, plan-words}
+use Rattle.sheetmodel.specs.Contents.{Inspection, classes, history}
+use Rattle.sheetmodel.specs.Holds.{Inspections}
+use Rattle.sheetmodel.specs.Read.{undecided}
+use Rattle.sheetmodel.specs.Calls.{row, corrupt, on-sheet, lot, lot-answer}
+use Rattle.sheetmodel.specs.History.{without-last}
+use Rattle.sheetmodel.specs.Estimate.{estimate-of, estimate-rows, estimate, units-of-class, without-unit}
 use Rattle.sheet.specs.Writes.{In-words}
 use Rattle.sheet.specs.Locating.{found-on, located}
-use Rattle.sheet.proofs.HistoryLaws.{classes-cons, length-classes, without-last-snoc}
+use Rattle.sheetmodel.proofs.Promise.{classes-cons, length-classes, without-last-snoc}
 use Rattle.sheet.proofs.Sizes.{long-enough}
 use Rattle.sheet.proofs.HeaderSteps.{few-stages}
 use Rattle.sheet.proofs.Requires.{holds, on-chain}

@@ -9,11 +9,11 @@ use native.Mathlib.Decide.{decLt}
 use lib.Dec.{eqb}
 use borrow.Author.Tests.{eq-eqb, ne-eqb}
 use Rattle.sheet.specs.declared.chain.FreeChain.the-variants.{Cut, Whole}
-use Rattle.sheet.specs.Layout.{word, field, next, first-free, first-record}
-use Rattle.sheet.specs.Read.{guard, then, in-use, depth, read-free}
-use Rattle.sheet.specs.Calls.{is-some}
+use Rattle.sheetmodel.specs.Layout.{word, field, next, first-free, first-record}
+use Rattle.sheetmodel.specs.Read.{guard, then, in-use, depth, read-free}
+use Rattle.sheetmodel.specs.Calls.{is-some}
 use Rattle.sheet.specs.Survey.{is-free, free-of}
-use Rattle.sheet.proofs.Reading.{sound-free}
+use Rattle.sheetmodel.proofs.Promise.{sound-free}
 
 one-free : (at : ℕ) (o : Option (List ℕ)) → is-some (then o (λ js. some (at ∷ js))) ≡ is-some o
 one-free at none = refl

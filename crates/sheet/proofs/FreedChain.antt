@@ -8,15 +8,13 @@ use mathlib.Core.List.{List, [], _∷_}
 use native.Mathlib.Omega.{arith}
 use lib.ListN.{length, set, length-set}
 use borrow.Author.Tests.{ne-eqb}
-use Rattle.sheet.specs.Layout.{word, field, next, put-record, next-unused, first-free, first-record}
-use Rattle.sheet.specs.Contents.{Inspection}
-use Rattle.sheet.specs.Holds.{Inspections}
-use Rattle.sheet.specs.Read.{depth}
-use Rattle.sheet.specs.Calls.{is-some, free-record, free-inspections}
+use Rattle.sheetmodel.specs.Layout.{word, field, next, put-record, next-unused, first-free, first-record}
+use Rattle.sheetmodel.specs.Contents.{Inspection}
+use Rattle.sheetmodel.specs.Holds.{Inspections}
+use Rattle.sheetmodel.specs.Read.{depth}
+use Rattle.sheetmodel.specs.Calls.{is-some, free-record, free-inspections}
 use Rattle.sheet.specs.Writes.{In-words, Freeing, read-chain, chain}
-use Rattle.sheet.proofs.Words.{Same, same-trans, word-set, word-set-here, same-set, written}
-use Rattle.sheet.proofs.Chains.{keep-inspections}
-use Rattle.sheet.proofs.Reading.{sound-inspections}
+use Rattle.sheetmodel.proofs.Promise.{Same, same-trans, word-set, word-set-here, same-set, written, keep-inspections, sound-inspections}
 
 -- the depth by the first free record
 depth-at : (w : List ℕ) (j d : ℕ) → word w first-free ≡ j → j ≢ 0 → field w j 0 ≡ d → depth w ≡ d

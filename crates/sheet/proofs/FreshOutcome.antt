@@ -4,9 +4,9 @@ use mathlib.Core.Path.{_≡_}
 use mathlib.Core.Bool.{true, false}
 use mathlib.Core.List.{List}
 use Rattle.plan.specs.Plan.{admitted}
-use Rattle.sheet.specs.declared.reply.Done.the-variants as done
-use Rattle.sheet.specs.Layout.{size-ok}
-use Rattle.sheet.specs.Calls.{fresh, fresh-rows, fresh-words}
+use Rattle.sheetmodel.specs.declared.reply.Done.the-variants as done
+use Rattle.sheetmodel.specs.Layout.{size-ok}
+use Rattle.sheetmodel.specs.Calls.{fresh, fresh-rows, fresh-words}
 
 module _ (p w : List ℕ) where
   pub wrong-size : size-ok w ≡ false → fresh p w ≡ record { reply = done.Refused 1; words = w }

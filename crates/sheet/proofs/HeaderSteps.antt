@@ -9,7 +9,7 @@ use lib.ListN.{length, take, drop, length-take, length-drop}
 use lib.Seq.{drop-drop}
 use Rattle.plan.specs.Plan.{admitted}
 use Rattle.plan.proofs.Promise.{shape}
-use Rattle.sheet.specs.Layout.{word, stage-count, plan-start, plan-room, plan-words, unused-stages}
+use Rattle.sheetmodel.specs.Layout.{word, stage-count, plan-start, plan-room, plan-words, unused-stages}
 
 take-nil : (n : ℕ) → take {A = ℕ} n [] ≡ []
 take-nil zero = refl

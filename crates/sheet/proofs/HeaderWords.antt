@@ -10,9 +10,9 @@ use lib.Dec.{ltb}
 use borrow.Author.Tests.{ltb-true, ltb-false}
 use Rattle.plan.specs.Plan.{stages, admitted}
 use Rattle.plan.proofs.Promise.{shape}
-use Rattle.sheet.specs.Layout.{word, first-record}
-use Rattle.sheet.specs.Calls.{fresh-words}
-use Rattle.sheet.proofs.FreshSheet.{same-length, zero-word}
+use Rattle.sheetmodel.specs.Layout.{word, first-record}
+use Rattle.sheetmodel.specs.Calls.{fresh-words}
+use Rattle.sheetmodel.proofs.Promise.{same-length, zero-word}
 
 -- the header's first i words after the stage count, and the old words from there on
 abbrev written-to : List ℕ → List ℕ → ℕ → List ℕ

@@ -11,13 +11,13 @@ use Rattle.plan.specs.Refusal.{Refusal, first-refusal}
 use Rattle.sheet.specs.declared.survey.Found.{Found}
 use Rattle.sheet.specs.declared.survey.Surveyed.the-variants.{Corrupt, Intact}
 use Rattle.sheet.specs.declared.locating.Located.the-variants.{Refused, At}
-use Rattle.sheet.specs.Layout.{size-ok}
-use Rattle.sheet.specs.Contents.{Lot, Contents, find, records-of}
-use Rattle.sheet.specs.Read.{read}
-use Rattle.sheet.specs.Calls.{is-some, row, on-sheet, last-below}
+use Rattle.sheetmodel.specs.Layout.{size-ok}
+use Rattle.sheetmodel.specs.Contents.{Lot, Contents, find, records-of}
+use Rattle.sheetmodel.specs.Read.{read}
+use Rattle.sheetmodel.specs.Calls.{is-some, row, on-sheet, last-below}
 use Rattle.sheet.specs.Survey.{found, survey-of}
 use Rattle.sheet.specs.Locating.{found-on, located}
-use Rattle.sheet.proofs.Outcomes.{None-applies}
+use Rattle.sheetmodel.proofs.Promise.{None-applies}
 use Rattle.sheet.proofs.Requires.{lot-after-header}
 
 -- a refusal by the first rows is one by all of them

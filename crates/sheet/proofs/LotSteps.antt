@@ -18,13 +18,11 @@ use Rattle.sheet.specs.declared.chain.Chain.the-variants.{Cut, Whole}
 use Rattle.sheet.specs.declared.survey.Found.{Found}
 use Rattle.sheet.specs.declared.survey.Surveyed.{Surveyed}
 use Rattle.sheet.specs.declared.survey.Surveyed.the-variants.{Corrupt, Intact}
-use Rattle.sheet.specs.Layout.{word, field, next, newest, next-unused, first-record}
-use Rattle.sheet.specs.Contents.{Inspection, Lot, classes}
-use Rattle.sheet.specs.Read.{guard, then, in-use, serial-at, read-inspections, read-lots, undecided-before}
+use Rattle.sheetmodel.specs.Layout.{word, field, next, newest, next-unused, first-record}
+use Rattle.sheetmodel.specs.Contents.{Inspection, Lot, classes}
+use Rattle.sheetmodel.specs.Read.{guard, then, in-use, serial-at, read-inspections, read-lots, undecided-before}
 use Rattle.sheet.specs.Survey.{record-at, is-lot, tested, chain-of, with-lot-found, lots-survey}
-use Rattle.sheet.proofs.HistoryLaws.{length-classes, fact}
-use Rattle.sheet.proofs.Reading.{sound-inspections}
-use Rattle.sheet.proofs.Standing.{is-history}
+use Rattle.sheetmodel.proofs.Promise.{length-classes, fact, sound-inspections, is-history}
 use Rattle.sheet.proofs.ChainSteps.{ended, not-ended, cut-here, whole-units}
 use Rattle.sheet.proofs.Tested.{same-test}
 

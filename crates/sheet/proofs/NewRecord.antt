@@ -4,8 +4,8 @@ use mathlib.Core.Path.{_≡_}
 use mathlib.Core.Logic.{_≢_}
 use mathlib.Core.List.{List}
 use borrow.Author.Tests.{eq-eqb, ne-eqb}
-use Rattle.sheet.specs.Layout.{word, next-unused, first-free}
-use Rattle.sheet.specs.Calls.{new-record}
+use Rattle.sheetmodel.specs.Layout.{word, next-unused, first-free}
+use Rattle.sheetmodel.specs.Calls.{new-record}
 
 pub new-is-free : (w : List ℕ) → word w first-free ≢ 0 → new-record w ≡ word w first-free
 unfolding new-record

@@ -14,21 +14,15 @@ use Rattle.plan.specs.Plan.{stages}
 use Rattle.plan.specs.Counts.{counts, units}
 use Rattle.plan.specs.Promise.{History}
 use Rattle.plan.proofs.Promise.{shape, promise, counting}
-use Rattle.sheet.specs.Layout.{size-ok, word, newest, next-unused, first-lot, first-free, first-record, plan-words, closed-lots, most-closed}
-use Rattle.sheet.specs.Contents.{Inspection, Lot, Contents, history, find, records-of}
-use Rattle.sheet.specs.Holds.{Inspections, Free, All-undecided-before, Holds}
-use Rattle.sheet.specs.Read.{read, serial-at}
-use Rattle.sheet.specs.Calls.{is-some, full, last-below, predecessor, lots-total, lot-answer}
+use Rattle.sheetmodel.specs.Layout.{size-ok, word, newest, next-unused, first-lot, first-free, first-record, plan-words, closed-lots, most-closed}
+use Rattle.sheetmodel.specs.Contents.{Inspection, Lot, Contents, history, find, records-of}
+use Rattle.sheetmodel.specs.Holds.{Inspections, Free, All-undecided-before, Holds}
+use Rattle.sheetmodel.specs.Read.{read, serial-at}
+use Rattle.sheetmodel.specs.Calls.{is-some, full, last-below, predecessor, lots-total, lot-answer}
 use Rattle.sheet.specs.Survey.{Sized}
 use Rattle.sheet.specs.Writes.{largest, In-words, Room, Freeing, Striking, Totals-fit, Closing, read-chain, lot-at}
 use Rattle.sheet.proofs.Sizes.{long-enough, short-enough}
-use Rattle.sheet.proofs.Reading.{reads, reads-inspections, serials, depths}
-use Rattle.sheet.proofs.Lots.{records-of-parts, Prior, prior-header}
-use Rattle.sheet.proofs.Records.{took}
-use Rattle.sheet.proofs.Standing.{is-history}
-use Rattle.sheet.proofs.Invariant.{undecided-from}
-use Rattle.sheet.proofs.Change.{Found, find-lot}
-use Rattle.sheet.proofs.Opened.{within}
+use Rattle.sheetmodel.proofs.Promise.{reads, reads-inspections, serials, depths, records-of-parts, Prior, prior-header, took, is-history, undecided-from, Found, find-lot, within}
 
 -- the front of a free chain is 0 or a record in use
 record Front (hi at : ℕ) : Type 0 where

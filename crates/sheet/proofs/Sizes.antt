@@ -6,8 +6,8 @@ use mathlib.Core.List.{List}
 use lib.ListN.{length}
 use lib.Dec.{leb}
 use borrow.Author.Tests.{leb-true}
-use Rattle.sheet.specs.Layout.{size-ok}
-use Rattle.sheet.proofs.Bools.{and-left, and-right}
+use Rattle.sheetmodel.specs.Layout.{size-ok}
+use Rattle.sheetmodel.proofs.Promise.{and-left, and-right}
 
 pub long-enough : (w : List ℕ) → size-ok w ≡ true → 48 ≤ length w
 long-enough w e = leb-true 48 (length w) (and-left (leb 48 (length w)) (leb (length w) 65536) e)

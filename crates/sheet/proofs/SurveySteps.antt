@@ -18,15 +18,13 @@ use Rattle.sheet.specs.declared.chain.FreeChain.the-variants as free
 use Rattle.sheet.specs.declared.survey.Found.{Found}
 use Rattle.sheet.specs.declared.survey.Surveyed.{Surveyed}
 use Rattle.sheet.specs.declared.survey.Surveyed.the-variants.{Corrupt, Intact}
-use Rattle.sheet.specs.Layout.{word, records, next-unused, first-lot, first-free, first-record, plan-words}
-use Rattle.sheet.specs.Contents.{Lot, history, records-of, find}
-use Rattle.sheet.specs.Holds.{Lots}
-use Rattle.sheet.specs.Read.{guard, then, depth, read-lots, read-free, all-undecided-before, header-ok, contents-ok, read-from, read}
-use Rattle.sheet.specs.Calls.{last-below}
+use Rattle.sheetmodel.specs.Layout.{word, records, next-unused, first-lot, first-free, first-record, plan-words}
+use Rattle.sheetmodel.specs.Contents.{Lot, history, records-of, find}
+use Rattle.sheetmodel.specs.Holds.{Lots}
+use Rattle.sheetmodel.specs.Read.{guard, then, depth, read-lots, read-free, all-undecided-before, header-ok, contents-ok, read-from, read}
+use Rattle.sheetmodel.specs.Calls.{last-below}
 use Rattle.sheet.specs.Survey.{found-from, nothing-found, lots-survey, free-of, found, survey-of}
-use Rattle.sheet.proofs.HistoryLaws.{length-classes}
-use Rattle.sheet.proofs.Reading.{sound-lots}
-use Rattle.sheet.proofs.Lots.{find-above}
+use Rattle.sheetmodel.proofs.Promise.{length-classes, sound-lots, find-above}
 
 -- ---- what is found
 

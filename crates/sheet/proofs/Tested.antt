@@ -16,11 +16,10 @@ use Rattle.plan.specs.Plan.{Stage, stages, End, end-below, admitted}
 use Rattle.plan.specs.Counts.{counts}
 use Rattle.plan.specs.Stopping.{earliest}
 use Rattle.plan.proofs.Promise.{promise}
-use Rattle.sheet.specs.Contents.{Inspection, classes}
-use Rattle.sheet.specs.Read.{undecided, undecided-before}
+use Rattle.sheetmodel.specs.Contents.{Inspection, classes}
+use Rattle.sheetmodel.specs.Read.{undecided, undecided-before}
 use Rattle.sheet.specs.Survey.{next-test, tested}
-use Rattle.sheet.proofs.Bools.{and-left, and-right}
-use Rattle.sheet.proofs.HistoryLaws.{classes-cons, length-classes, goes-on, test}
+use Rattle.sheetmodel.proofs.Promise.{and-left, and-right, classes-cons, length-classes, goes-on, test}
 
 -- undecided before each is undecided where the walk tests
 pub tests-hold : (p : List Stage) (t : ℕ) (is : List Inspection) → undecided-before p is ≡ true → tested p t is ≡ true

@@ -8,9 +8,9 @@ use lib.ListN.{length}
 use Rattle.plan.specs.declared.counts.Counts.{Counts}
 use Rattle.plan.specs.declared.stage.Answer.{Answer}
 use Rattle.plan.specs.declared.stage.Answer.the-variants.{GoOn, Accept, Reject}
-use Rattle.sheet.specs.Layout.{word, accepted-lots, rejected-lots}
-use Rattle.sheet.specs.Calls.{add-to, lots-total, add-totals}
-use Rattle.sheet.proofs.Closed.{Added, added, Totalled, totalled}
+use Rattle.sheetmodel.specs.Layout.{word, accepted-lots, rejected-lots}
+use Rattle.sheetmodel.specs.Calls.{add-to, lots-total, add-totals}
+use Rattle.sheetmodel.proofs.Promise.{Added, added, Totalled, totalled}
 
 pub lots-total-in : (a : Answer) → (accepted-lots ≤ lots-total a) × (lots-total a ≤ rejected-lots)
 lots-total-in GoOn = omega arith

@@ -11,17 +11,13 @@ use Rattle.plan.specs.declared.counts.Counts.{Counts}
 use Rattle.plan.specs.declared.stage.Answer.{Answer}
 use Rattle.plan.specs.Counts.{units}
 use Rattle.plan.proofs.Promise.{counting}
-use Rattle.sheet.specs.Layout.{word, field, next, newest, put, next-unused, first-free, first-record}
-use Rattle.sheet.specs.Contents.{history}
-use Rattle.sheet.specs.Holds.{Inspections}
-use Rattle.sheet.specs.Read.{serial-at, depth}
-use Rattle.sheet.specs.Calls.{lots-total, add-totals, free-record, free-inspections, free-lot, without-lot}
+use Rattle.sheetmodel.specs.Layout.{word, field, next, newest, put, next-unused, first-free, first-record}
+use Rattle.sheetmodel.specs.Contents.{history}
+use Rattle.sheetmodel.specs.Holds.{Inspections}
+use Rattle.sheetmodel.specs.Read.{serial-at, depth}
+use Rattle.sheetmodel.specs.Calls.{lots-total, add-totals, free-record, free-inspections, free-lot, without-lot}
 use Rattle.sheet.specs.Writes.{Freeing, Closing, read-chain, chain, lot-at}
-use Rattle.sheet.proofs.Words.{Same, same-trans, word-set, same-put}
-use Rattle.sheet.proofs.Chains.{keep-inspections}
-use Rattle.sheet.proofs.HistoryLaws.{length-classes}
-use Rattle.sheet.proofs.Reading.{reads-inspections, sound-inspections}
-use Rattle.sheet.proofs.Closed.{Totalled}
+use Rattle.sheetmodel.proofs.Promise.{Same, same-trans, word-set, same-put, keep-inspections, length-classes, reads-inspections, sound-inspections, Totalled}
 use Rattle.sheet.proofs.FreedChain.{same-depth, is-read}
 use Rattle.sheet.proofs.TotalsKept.{lots-total-in, all-totalled}
 

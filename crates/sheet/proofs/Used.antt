@@ -7,10 +7,10 @@ use native.Mathlib.Omega.{arith}
 use lib.ListN.{length}
 use lib.Dec.{leb, ltb}
 use borrow.Author.Tests.{ltb-true}
-use Rattle.sheet.specs.Layout.{word, next-unused, first-record}
-use Rattle.sheet.specs.Read.{in-use}
+use Rattle.sheetmodel.specs.Layout.{word, next-unused, first-record}
+use Rattle.sheetmodel.specs.Read.{in-use}
 use Rattle.sheet.specs.Survey.{Sized, is-inspection, is-free, is-lot}
-use Rattle.sheet.proofs.Bools.{and-left, and-right}
+use Rattle.sheetmodel.proofs.Promise.{and-left, and-right}
 
 pub record-within : (w : List ℕ) (at : ℕ) → Sized w → in-use first-record w at ≡ true → 4 * at + 3 < length w
 record-within w at s e = omega (arith, s .room, ltb-true at (word w next-unused) (and-right (leb first-record at) (ltb at (word w next-unused)) e))

@@ -1,14 +1,3 @@
-pub mod Layout
-pub mod Contents
-pub mod Holds
-pub mod Read
 pub mod Survey
-pub mod Reply
-pub mod Calls
 pub mod Writes
 pub mod Locating
-pub mod History
-pub mod Estimate
-pub mod Demand1
-pub mod Demand3
-pub mod Corollaries

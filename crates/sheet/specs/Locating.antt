@@ -5,8 +5,8 @@ use Rattle.plan.specs.Refusal.{Refusal, first-refusal}
 use Rattle.sheet.specs.declared.survey.Found.{Found}
 use Rattle.sheet.specs.declared.locating.Located.{Located}
 use Rattle.sheet.specs.declared.locating.Located.the-variants as variants
-use Rattle.sheet.specs.Contents.{find, records-of}
-use Rattle.sheet.specs.Calls.{contents, predecessor, sheet-rows}
+use Rattle.sheetmodel.specs.Contents.{find, records-of}
+use Rattle.sheetmodel.specs.Calls.{contents, predecessor, sheet-rows}
 use Rattle.sheet.specs.Survey.{found}
 
 abbrev pub found-on : ℕ → List ℕ → Found

@@ -8,11 +8,11 @@ use lib.ListN.{length}
 use Rattle.plan.specs.declared.counts.Counts.{Counts}
 use Rattle.plan.specs.declared.stage.Answer.{Answer}
 use Rattle.plan.specs.Counts.{counts}
-use Rattle.sheet.specs.Layout.{word, field, newest, first-free, first-record, good-units, marginal-units, bad-units}
-use Rattle.sheet.specs.Contents.{Inspection, Lot, history}
-use Rattle.sheet.specs.Read.{serial-at, depth, read-inspections}
+use Rattle.sheetmodel.specs.Layout.{word, field, newest, first-free, first-record, good-units, marginal-units, bad-units}
+use Rattle.sheetmodel.specs.Contents.{Inspection, Lot, history}
+use Rattle.sheetmodel.specs.Read.{serial-at, depth, read-inspections}
 use Rattle.sheet.specs.Survey.{Sized}
-use Rattle.sheet.specs.Calls.{is-some, new-record, lots-total, lot-answer}
+use Rattle.sheetmodel.specs.Calls.{is-some, new-record, lots-total, lot-answer}
 
 abbrev pub largest : ℕ
 largest = 4294967295

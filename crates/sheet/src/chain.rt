@@ -13,9 +13,9 @@ ghost use mathlib.Core.Bool.{true};
 ghost use Prim.Native.Nat.{_≤_};
 ghost use Rattle.plan.specs.Plan.{stages, total, admitted};
 ghost use Rattle.plan.specs.Counts.{units};
-ghost use Rattle.sheet.specs.Layout.{first-record, first-free, word};
-ghost use Rattle.sheet.specs.Read.{in-use, serial-at, depth, read-inspections, read-free, undecided-before};
-ghost use Rattle.sheet.specs.Calls.{is-some};
+ghost use Rattle.sheetmodel.specs.Layout.{first-record, first-free, word};
+ghost use Rattle.sheetmodel.specs.Read.{in-use, serial-at, depth, read-inspections, read-free, undecided-before};
+ghost use Rattle.sheetmodel.specs.Calls.{is-some};
 ghost use Rattle.sheet.specs.Survey.{Sized, is-inspection, is-free, may-go-on, next-test, tested, chain-of, free-of};
 
 // A chain of inspections: damaged, or whole, with its units.

@@ -3,11 +3,11 @@ use crate::locating::Located;
 use crate::locating::locate_lot;
 use crate::progress::answer_to;
 use crate::progress::is_undecided;
-use crate::reply::Done;
 use crate::totals::are_full;
 use crate::writing::remove_lot;
+use sheetmodel::Done;
 ghost use mathlib.Core.Path.{_≡_};
-ghost use Rattle.sheet.specs.Calls.{close};
+ghost use Rattle.sheetmodel.specs.Calls.{close};
 
 pub fn close(sheet: &mut [u32], lot: u32) -> Done
     ensures { λ r. ⌜ r ≡ close lot (now (sheet .entry)) .reply ⌝ }

@@ -6,12 +6,12 @@ use crate::progress::answer_to;
 use crate::progress::is_undecided;
 use crate::progress::units_of;
 use crate::record::field_of;
-use crate::reply::Estimate;
-use crate::reply::Estimated;
 use plan::Counts;
+use sheetmodel::Estimate;
+use sheetmodel::Estimated;
 ghost use mathlib.Core.Path.{_≡_};
 ghost use Prim.Native.Nat.{_≤_};
-ghost use Rattle.sheet.specs.Estimate.{estimate, units-of-class, without-unit};
+ghost use Rattle.sheetmodel.specs.Estimate.{estimate, units-of-class, without-unit};
 
 // One unit less of a class.
 fn without_unit(class: u32, c: Counts) -> Counts

@@ -6,15 +6,15 @@ use crate::layout::NEXT_UNUSED;
 use crate::layout::PLAN_START;
 use crate::layout::STAGE_COUNT;
 use crate::layout::STAGES_AND_TOTALS;
-use crate::reply::Done;
 use crate::size::size_ok;
+use sheetmodel::Done;
 ghost use mathlib.Core.Path.{_≡_};
 ghost use Prim.Native.Nat.{_≤_};
 ghost use mathlib.Core.Bool.{true};
 ghost use lib.ListN.{length};
 ghost use Rattle.plan.specs.Plan.{admitted};
-ghost use Rattle.sheet.specs.Layout.{word};
-ghost use Rattle.sheet.specs.Calls.{fresh, fresh-words};
+ghost use Rattle.sheetmodel.specs.Layout.{word};
+ghost use Rattle.sheetmodel.specs.Calls.{fresh, fresh-words};
 
 // The plan's word i; 0 after its last.
 fn plan_word(plan: &[u32], i: usize) -> u32

@@ -5,7 +5,7 @@ use crate::record::field_of;
 ghost use mathlib.Core.Path.{_≡_};
 ghost use Prim.Native.Nat.{_≤_};
 ghost use lib.ListN.{length};
-ghost use Rattle.sheet.specs.Calls.{full, new-record, take-record};
+ghost use Rattle.sheetmodel.specs.Calls.{full, new-record, take-record};
 ghost use Rattle.sheet.specs.Writes.{Room};
 
 // Is no record free or unused?

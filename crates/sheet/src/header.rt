@@ -11,8 +11,8 @@ use crate::layout::STAGE_COUNT;
 ghost use mathlib.Core.Path.{_≡_};
 ghost use Prim.Native.Nat.{_≤_};
 ghost use lib.ListN.{length};
-ghost use Rattle.sheet.specs.Layout.{first-record};
-ghost use Rattle.sheet.specs.Read.{all-zero, header-ok};
+ghost use Rattle.sheetmodel.specs.Layout.{first-record};
+ghost use Rattle.sheetmodel.specs.Read.{all-zero, header-ok};
 ghost use Rattle.sheet.specs.Survey.{are-totals};
 
 fn is_zero(words: &[u32]) -> bool

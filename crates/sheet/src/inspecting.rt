@@ -5,10 +5,10 @@ use crate::locating::locate_lot;
 use crate::progress::answer_to;
 use crate::progress::is_undecided;
 use crate::progress::units_of;
-use crate::reply::Done;
 use crate::writing::add_inspection;
+use sheetmodel::Done;
 ghost use mathlib.Core.Path.{_≡_};
-ghost use Rattle.sheet.specs.Calls.{inspect};
+ghost use Rattle.sheetmodel.specs.Calls.{inspect};
 
 pub fn inspect(sheet: &mut [u32], lot: u32, class: u32) -> Done
     ensures { λ r. ⌜ r ≡ inspect lot class (now (sheet .entry)) .reply ⌝ }

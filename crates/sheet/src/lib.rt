@@ -1,4 +1,5 @@
-// A sheet: many lots in inspection on one borrowed run of words. Document 01, "Sheet".
+// A sheet: many lots in inspection on one borrowed run of words. Document 01, "Sheet". What the calls do is defined in crate
+// `sheetmodel`.
 mod chain;
 mod closing;
 mod estimating;
@@ -13,7 +14,6 @@ mod looking;
 mod opening;
 mod progress;
 mod record;
-mod reply;
 mod size;
 mod striking;
 mod survey;
@@ -27,11 +27,11 @@ pub use inspecting::inspect;
 pub use looking::look;
 pub use looking::tally;
 pub use opening::open;
-pub use reply::Done;
-pub use reply::Estimate;
-pub use reply::Estimated;
-pub use reply::Looked;
-pub use reply::Shown;
-pub use reply::Tallied;
-pub use reply::Totals;
+pub use sheetmodel::Done;
+pub use sheetmodel::Estimate;
+pub use sheetmodel::Estimated;
+pub use sheetmodel::Looked;
+pub use sheetmodel::Shown;
+pub use sheetmodel::Tallied;
+pub use sheetmodel::Totals;
 pub use striking::strike;

@@ -6,7 +6,7 @@ use crate::survey::survey;
 ghost use mathlib.Core.Path.{_≡_};
 ghost use mathlib.Core.List.{[], _∷_};
 ghost use mathlib.Core.Bool.{not};
-ghost use Rattle.sheet.specs.Calls.{row, on-sheet};
+ghost use Rattle.sheetmodel.specs.Calls.{row, on-sheet};
 ghost use Rattle.sheet.specs.Locating.{located};
 
 // Refused, or what is found for the number.

@@ -9,12 +9,12 @@ use crate::locating::locate;
 use crate::locating::locate_lot;
 use crate::progress::answer_to;
 use crate::progress::units_of;
-use crate::reply::Looked;
-use crate::reply::Shown;
-use crate::reply::Tallied;
-use crate::reply::Totals;
+use sheetmodel::Looked;
+use sheetmodel::Shown;
+use sheetmodel::Tallied;
+use sheetmodel::Totals;
 ghost use mathlib.Core.Path.{_≡_};
-ghost use Rattle.sheet.specs.Calls.{look, tally};
+ghost use Rattle.sheetmodel.specs.Calls.{look, tally};
 
 pub fn look(sheet: &[u32], lot: u32) -> Looked
     ensures { λ r. ⌜ r ≡ look lot (now (sheet .entry)) .reply ⌝ }

@@ -2,10 +2,10 @@
 use crate::granting::is_full;
 use crate::locating::Located;
 use crate::locating::locate;
-use crate::reply::Done;
 use crate::writing::add_lot;
+use sheetmodel::Done;
 ghost use mathlib.Core.Path.{_≡_};
-ghost use Rattle.sheet.specs.Calls.{open-lot};
+ghost use Rattle.sheetmodel.specs.Calls.{open-lot};
 
 pub fn open(sheet: &mut [u32], lot: u32) -> Done
     ensures { λ r. ⌜ r ≡ open-lot lot (now (sheet .entry)) .reply ⌝ }

@@ -10,8 +10,8 @@ ghost use lib.ListN.{length};
 ghost use Rattle.plan.specs.Plan.{stages, admitted};
 ghost use Rattle.plan.specs.Counts.{units};
 ghost use Rattle.plan.specs.Stopping.{earliest};
-ghost use Rattle.sheet.specs.Layout.{plan-words};
-ghost use Rattle.sheet.specs.Read.{undecided};
+ghost use Rattle.sheetmodel.specs.Layout.{plan-words};
+ghost use Rattle.sheetmodel.specs.Read.{undecided};
 
 pub fn units_of(c: Counts) -> u32
     requires { ⌜ units c ≤ 1000 ⌝ }

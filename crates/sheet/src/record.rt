@@ -2,7 +2,7 @@
 ghost use mathlib.Core.Path.{_≡_};
 ghost use Prim.Native.Nat.{_+_, _*_, _≤_, _<_};
 ghost use lib.ListN.{length};
-ghost use Rattle.sheet.specs.Layout.{field, put, put-record};
+ghost use Rattle.sheetmodel.specs.Layout.{field, put, put-record};
 ghost use Rattle.sheet.specs.Survey.{record-at};
 
 // The four words of a record: of a lot number, next lot, newest inspection and 0; of an inspection

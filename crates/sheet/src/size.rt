@@ -1,6 +1,6 @@
 // The sizes that a sheet may have. Document 01, "Sheet".
 ghost use mathlib.Core.Path.{_≡_};
-ghost use Rattle.sheet.specs.Layout.{size-ok};
+ghost use Rattle.sheetmodel.specs.Layout.{size-ok};
 
 pub fn size_ok(sheet: &[u32]) -> bool
     ensures { λ r. ⌜ r ≡ size-ok (now (sheet .entry)) ⌝ }

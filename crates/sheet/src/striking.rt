@@ -2,10 +2,10 @@
 use crate::locating::Located;
 use crate::locating::locate_lot;
 use crate::progress::units_of;
-use crate::reply::Done;
 use crate::writing::remove_newest;
+use sheetmodel::Done;
 ghost use mathlib.Core.Path.{_≡_};
-ghost use Rattle.sheet.specs.Calls.{strike};
+ghost use Rattle.sheetmodel.specs.Calls.{strike};
 
 pub fn strike(sheet: &mut [u32], lot: u32) -> Done
     ensures { λ r. ⌜ r ≡ strike lot (now (sheet .entry)) .reply ⌝ }

@@ -18,8 +18,8 @@ ghost use lib.ListN.{length};
 ghost use lib.Dec.{eqb};
 ghost use Rattle.plan.specs.Plan.{stages, admitted};
 ghost use Rattle.plan.specs.Counts.{units};
-ghost use Rattle.sheet.specs.Layout.{next-unused, first-record, first-lot, word, records};
-ghost use Rattle.sheet.specs.Read.{read, read-lots};
+ghost use Rattle.sheetmodel.specs.Layout.{next-unused, first-record, first-lot, word, records};
+ghost use Rattle.sheetmodel.specs.Read.{read, read-lots};
 ghost use Rattle.sheet.specs.Survey.{Sized, is-lot, with-lot-found, nothing-found, lots-survey, survey-of};
 
 // What is found for a lot's number: its record and its units, 0 and none where it is not on the sheet;

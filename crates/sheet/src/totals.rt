@@ -11,8 +11,8 @@ ghost use mathlib.Core.Path.{_≡_};
 ghost use Prim.Native.Nat.{_+_, _≤_, _<_};
 ghost use lib.ListN.{length};
 ghost use lib.Dec.{leb};
-ghost use Rattle.sheet.specs.Layout.{word, most-closed, closed-lots};
-ghost use Rattle.sheet.specs.Calls.{add-to, lots-total, add-totals};
+ghost use Rattle.sheetmodel.specs.Layout.{word, most-closed, closed-lots};
+ghost use Rattle.sheetmodel.specs.Calls.{add-to, lots-total, add-totals};
 ghost use Rattle.sheet.specs.Writes.{largest, Totals-fit};
 
 // The total that counts a lot closed with this answer. An undecided lot is never closed.

@@ -11,8 +11,8 @@ use plan::Answer;
 use plan::Counts;
 ghost use mathlib.Core.Path.{_≡_};
 ghost use Prim.Native.Nat.{_<_};
-ghost use Rattle.sheet.specs.Layout.{newest};
-ghost use Rattle.sheet.specs.Calls.{new-record, with-lot, with-inspection, without-newest, without-lot};
+ghost use Rattle.sheetmodel.specs.Layout.{newest};
+ghost use Rattle.sheetmodel.specs.Calls.{new-record, with-lot, with-inspection, without-newest, without-lot};
 ghost use Rattle.sheet.specs.Writes.{largest, In-words, Room, Striking, Closing, lot-at};
 
 // A new lot after the one in record `before`; the header (0) is before all lots.

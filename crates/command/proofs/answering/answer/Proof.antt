@@ -6,16 +6,16 @@ use mathlib.Core.List.{List}
 use lib.ListN.{length, take}
 use lib.Seq.{length-take-le}
 use borrow.Author.Needs.{needs}
-use Rattle.sheet.specs.declared.reply.Done.{Done}
-use Rattle.sheet.specs.declared.reply.Looked.{Looked}
-use Rattle.sheet.specs.declared.reply.Tallied.{Tallied}
-use Rattle.sheet.specs.Calls as calls
+use Rattle.sheetmodel.specs.declared.reply.Done.{Done}
+use Rattle.sheetmodel.specs.declared.reply.Looked.{Looked}
+use Rattle.sheetmodel.specs.declared.reply.Tallied.{Tallied}
+use Rattle.sheetmodel.specs.Calls as calls
 use Rattle.command.specs.declared.reading.Command.{Command}
 use Rattle.command.specs.Command as command
 use Rattle.command.specs.Printed.{done-printed, look-printed, tally-printed}
 use Rattle.command.specs.Read.{most-numbers, meaning, plan-numbers}
 use Rattle.command.specs.Written.{written}
-use Rattle.sheet.proofs.Corollaries.{look-words, tally-words}
+use Rattle.sheetmodel.proofs.Corollaries.{look-words, tally-words}
 use Rattle.command.proofs.Answers.{of-command, of-none, fresh-made, opening-made, inspecting-made, striking-made, looking-made, closing-made, tallying-made, printed-length, printed-bytes, left-words}
 use Rattle.command.proofs.answering.answer.Statement.{statement}
 use Rattle.command.proofs.answering.answer.Tie as tie

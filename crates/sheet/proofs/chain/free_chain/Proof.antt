@@ -4,8 +4,8 @@ use borrow.Author.Tests.{not-true, not-false}
 use mathlib.Core.Path.{sym, ap, _∙_}
 use Prim.Native.Nat.{ℕ}
 use native.Mathlib.Omega.{arith}
-use Rattle.sheet.specs.Layout.{word, first-free, first-record}
-use Rattle.sheet.specs.Read.{read-free}
+use Rattle.sheetmodel.specs.Layout.{word, first-free, first-record}
+use Rattle.sheetmodel.specs.Read.{read-free}
 use Rattle.sheet.specs.Survey.{free-of}
 use Rattle.sheet.proofs.Used.{record-within}
 use Rattle.sheet.proofs.FreeSteps.{no-free, depth-is, cut, whole-of, not-used}

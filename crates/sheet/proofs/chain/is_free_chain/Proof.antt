@@ -3,9 +3,9 @@ use mathlib.Core.Path.{_≡_, sym, _∙_}
 use native.Mathlib.Omega.{arith}
 use borrow.Author.Needs.{needs}
 use borrow.Author.Tests.{not-true, not-false}
-use Rattle.sheet.specs.Layout.{first-record}
-use Rattle.sheet.specs.Read.{read-free}
-use Rattle.sheet.specs.Calls.{is-some}
+use Rattle.sheetmodel.specs.Layout.{first-record}
+use Rattle.sheetmodel.specs.Read.{read-free}
+use Rattle.sheetmodel.specs.Calls.{is-some}
 use Rattle.sheet.proofs.Used.{free-within}
 use Rattle.sheet.proofs.FreeSteps.{ended, not-free, next-free}
 use Rattle.sheet.proofs.chain.is_free_chain.Statement.{statement}

@@ -6,8 +6,8 @@ use native.Mathlib.Omega.{arith}
 use Prim.Native.Nat.{ℕ}
 use Rattle.plan.specs.Plan.{stages}
 use Rattle.plan.proofs.Promise.{shape}
-use Rattle.sheet.specs.Layout.{first-record}
-use Rattle.sheet.specs.Read.{read-inspections, undecided-before}
+use Rattle.sheetmodel.specs.Layout.{first-record}
+use Rattle.sheetmodel.specs.Read.{read-inspections, undecided-before}
 use Rattle.sheet.specs.Survey.{chain-of}
 use Rattle.sheet.proofs.Used.{record-within}
 use Rattle.sheet.proofs.LotSteps.{no-inspection, serial-is, not-used, no-serial, too-long, by-tests}

@@ -2,7 +2,7 @@
 use borrow.Author.Needs.{needs}
 use borrow.Author.Tests.{eq-eqb, ne-eqb}
 use mathlib.Core.Path.{ap, sym, _∙_}
-use Rattle.sheet.specs.Read.{undecided}
+use Rattle.sheetmodel.specs.Read.{undecided}
 use Rattle.sheet.proofs.chain.may_go_on.Statement.{statement}
 use Rattle.sheet.proofs.chain.may_go_on.Tie as tie
 

@@ -1,7 +1,7 @@
 -- `sheet::close` meets its contract: the tests are in the order of the table. Assumes nothing.
 use mathlib.Core.Path.{refl, sym, ap, _∙_}
 use borrow.Author.Needs.{needs}
-use Rattle.sheet.specs.Read.{undecided}
+use Rattle.sheetmodel.specs.Read.{undecided}
 use Rattle.sheet.proofs.LocatedFacts.{With-lot, with-lot}
 use Rattle.sheet.proofs.CallSteps.{answer-requires, long, close-refused, close-undecided, close-full, close-requires, close-granted}
 use Rattle.sheet.proofs.closing.close.Statement.{statement}

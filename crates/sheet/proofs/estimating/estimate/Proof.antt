@@ -2,9 +2,9 @@
 use mathlib.Core.Path.{_≡_, refl, sym, ap, _∙_}
 use native.Mathlib.Omega.{arith}
 use borrow.Author.Needs.{needs}
-use Rattle.sheet.specs.Layout.{field, newest}
-use Rattle.sheet.specs.Read.{undecided}
-use Rattle.sheet.specs.Estimate.{without-unit}
+use Rattle.sheetmodel.specs.Layout.{field, newest}
+use Rattle.sheetmodel.specs.Read.{undecided}
+use Rattle.sheetmodel.specs.Estimate.{without-unit}
 use Rattle.sheet.proofs.Sizes.{short-enough}
 use Rattle.sheet.proofs.LocatedFacts.{With-lot, with-lot}
 use Rattle.sheet.proofs.CallSteps.{long, lot-inside, answer-requires}

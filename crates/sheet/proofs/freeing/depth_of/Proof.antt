@@ -1,8 +1,8 @@
 -- `sheet::depth_of` meets its contract. Assumes nothing.
 use borrow.Author.Needs.{needs}
 use borrow.Author.Tests.{eq-eqb, ne-eqb}
-use Rattle.sheet.specs.Layout.{word}
-use Rattle.sheet.specs.Read.{depth}
+use Rattle.sheetmodel.specs.Layout.{word}
+use Rattle.sheetmodel.specs.Read.{depth}
 use Rattle.sheet.proofs.freeing.depth_of.Statement.{statement}
 use Rattle.sheet.proofs.freeing.depth_of.Tie as tie
 

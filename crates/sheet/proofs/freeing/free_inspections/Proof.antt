@@ -2,7 +2,7 @@
 use mathlib.Core.Path.{_≡_, refl, _∙_}
 use native.Mathlib.Omega.{arith}
 use lib.ListN.{length}
-use Rattle.sheet.specs.Calls.{free-inspections}
+use Rattle.sheetmodel.specs.Calls.{free-inspections}
 use Rattle.sheet.specs.Writes.{In-words, chain}
 use Rattle.sheet.proofs.FreedChain.{Left, left-start, left-in, left-step, left-done}
 use Rattle.sheet.proofs.freeing.free_inspections.Statement.{statement}

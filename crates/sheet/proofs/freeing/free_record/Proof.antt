@@ -1,6 +1,6 @@
 -- `sheet::free_record` meets its contract. Assumes nothing.
 use borrow.Author.Needs.{needs}
-use Rattle.sheet.specs.Calls.{free-record}
+use Rattle.sheetmodel.specs.Calls.{free-record}
 use Rattle.sheet.proofs.freeing.free_record.Statement.{statement}
 use Rattle.sheet.proofs.freeing.free_record.Tie as tie
 

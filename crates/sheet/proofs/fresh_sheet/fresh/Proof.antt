@@ -4,7 +4,7 @@ use mathlib.Core.Bool.{true}
 use borrow.Author.Needs.{needs}
 use borrow.Author.Tests.{not-true, not-false}
 use Rattle.plan.specs.Plan.{admitted}
-use Rattle.sheet.specs.Layout.{size-ok}
+use Rattle.sheetmodel.specs.Layout.{size-ok}
 use Rattle.sheet.proofs.Sizes.{long-enough, short-enough}
 use Rattle.sheet.proofs.FreshOutcome.{wrong-size, not-admitted, granted}
 use Rattle.sheet.proofs.fresh_sheet.fresh.Statement.{statement}

@@ -2,8 +2,8 @@
 use native.Mathlib.Omega.{arith}
 use borrow.Author.Needs.{needs}
 use borrow.Author.Tests.{eq-eqb, ne-eqb}
-use Rattle.sheet.specs.Layout.{word}
-use Rattle.sheet.specs.Calls.{full}
+use Rattle.sheetmodel.specs.Layout.{word}
+use Rattle.sheetmodel.specs.Calls.{full}
 use Rattle.sheet.proofs.granting.is_full.Statement.{statement}
 use Rattle.sheet.proofs.granting.is_full.Tie as tie
 

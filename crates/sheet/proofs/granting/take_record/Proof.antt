@@ -2,8 +2,8 @@
 use native.Mathlib.Omega.{arith}
 use borrow.Author.Needs.{needs}
 use borrow.Author.Tests.{eq-eqb, ne-eqb}
-use Rattle.sheet.specs.Layout.{word}
-use Rattle.sheet.specs.Calls.{take-record}
+use Rattle.sheetmodel.specs.Layout.{word}
+use Rattle.sheetmodel.specs.Calls.{take-record}
 use Rattle.sheet.proofs.NewRecord.{new-is-free, new-is-unused}
 use Rattle.sheet.proofs.granting.take_record.Statement.{statement}
 use Rattle.sheet.proofs.granting.take_record.Tie as tie

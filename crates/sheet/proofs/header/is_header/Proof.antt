@@ -4,8 +4,8 @@ use borrow.Author.Tests.{le-leb, lt-leb, not-true, not-false}
 use mathlib.Core.Path.{refl, sym, ap, _∙_}
 use native.Mathlib.Omega.{arith}
 use Rattle.plan.specs.Plan.{admitted}
-use Rattle.sheet.specs.Layout.{word, next-unused, first-record, records}
-use Rattle.sheet.specs.Read.{all-zero}
+use Rattle.sheetmodel.specs.Layout.{word, next-unused, first-record, records}
+use Rattle.sheetmodel.specs.Read.{all-zero}
 use Rattle.sheet.proofs.HeaderSteps.{too-many, plan-part, unused-part}
 use Rattle.sheet.proofs.header.is_header.Statement.{statement}
 use Rattle.sheet.proofs.header.is_header.Tie as tie

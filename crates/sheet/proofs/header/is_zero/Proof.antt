@@ -8,7 +8,7 @@ use lib.ListN.{length, getD, drop, drop-of-length-le}
 use lib.Seq.{drop-cons}
 use borrow.Author.Needs.{needs}
 use borrow.Author.Tests.{eq-eqb, ne-eqb}
-use Rattle.sheet.specs.Read.{all-zero}
+use Rattle.sheetmodel.specs.Read.{all-zero}
 use Rattle.sheet.proofs.header.is_zero.Statement.{statement}
 use Rattle.sheet.proofs.header.is_zero.Tie as tie
 

@@ -2,7 +2,7 @@
 use mathlib.Core.Path.{refl, sym, ap, _∙_}
 use borrow.Author.Needs.{needs}
 use borrow.Author.Tests.{not-true, not-false}
-use Rattle.sheet.specs.Read.{undecided}
+use Rattle.sheetmodel.specs.Read.{undecided}
 use Rattle.sheet.proofs.LocatedFacts.{With-lot, with-lot}
 use Rattle.sheet.proofs.CallSteps.{answer-requires, long, few, inspect-refused, inspect-class, inspect-decided, inspect-full, inspect-requires, inspect-granted}
 use Rattle.sheet.proofs.inspecting.inspect.Statement.{statement}

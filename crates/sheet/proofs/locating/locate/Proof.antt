@@ -3,7 +3,7 @@ use mathlib.Core.Path.{_≡_, sym, _∙_}
 use mathlib.Core.Bool.{true}
 use borrow.Author.Needs.{needs}
 use borrow.Author.Tests.{not-true, not-false}
-use Rattle.sheet.specs.Layout.{size-ok}
+use Rattle.sheetmodel.specs.Layout.{size-ok}
 use Rattle.sheet.proofs.Sizes.{long-enough, short-enough}
 use Rattle.sheet.proofs.LocatedFacts.{wrong-size, corrupt, intact}
 use Rattle.sheet.proofs.locating.locate.Statement.{statement}

@@ -4,8 +4,8 @@ use mathlib.Core.Bool.{not}
 use mathlib.Core.List.{[], _∷_}
 use borrow.Author.Needs.{needs}
 use Rattle.sheet.specs.declared.locating.Located.the-variants.{Refused, At}
-use Rattle.sheet.specs.Layout.{size-ok}
-use Rattle.sheet.specs.Calls.{row, on-sheet, corrupt}
+use Rattle.sheetmodel.specs.Layout.{size-ok}
+use Rattle.sheetmodel.specs.Calls.{row, on-sheet, corrupt}
 use Rattle.sheet.specs.Locating.{found-on}
 use Rattle.sheet.proofs.LocatedFacts.{refused-by, whole, not-there, there}
 use Rattle.sheet.proofs.locating.locate_lot.Statement.{statement}

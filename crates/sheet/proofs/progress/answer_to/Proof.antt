@@ -7,7 +7,7 @@ use borrow.Author.Needs.{needs}
 use Rattle.plan.specs.Plan.{stages}
 use Rattle.plan.specs.Stopping.{earliest}
 use Rattle.plan.proofs.Promise.{shape}
-use Rattle.sheet.specs.Layout.{word, stage-count, plan-words}
+use Rattle.sheetmodel.specs.Layout.{word, stage-count, plan-words}
 use Rattle.sheet.proofs.HeaderSteps.{few-stages, plan-part}
 use Rattle.sheet.proofs.progress.answer_to.Statement.{statement}
 use Rattle.sheet.proofs.progress.answer_to.Tie as tie

@@ -1,6 +1,6 @@
 -- `sheet::put_record` meets its contract: its four words, one after the other. Assumes nothing.
 use borrow.Author.Needs.{needs}
-use Rattle.sheet.specs.Layout.{put-record}
+use Rattle.sheetmodel.specs.Layout.{put-record}
 use Rattle.sheet.proofs.record.put_record.Statement.{statement}
 use Rattle.sheet.proofs.record.put_record.Tie as tie
 

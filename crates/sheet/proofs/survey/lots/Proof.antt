@@ -9,8 +9,8 @@ use Rattle.plan.specs.Counts.{units}
 use Rattle.plan.proofs.Promise.{shape}
 use Rattle.sheet.specs.declared.survey.Found.{Found}
 use Rattle.sheet.specs.declared.chain.Chain.the-variants.{Cut, Whole}
-use Rattle.sheet.specs.Layout.{word, records, first-lot, first-record}
-use Rattle.sheet.specs.Read.{serial-at, read-lots}
+use Rattle.sheetmodel.specs.Layout.{word, records, first-lot, first-record}
+use Rattle.sheetmodel.specs.Read.{serial-at, read-lots}
 use Rattle.sheet.specs.Survey.{nothing-found, lots-survey}
 use Rattle.sheet.proofs.Used.{lot-within}
 use Rattle.sheet.proofs.LotSteps.{no-lot, none-left, not-lot, next-lot, chain-units}

@@ -9,10 +9,10 @@ use borrow.Author.Tests.{leb-true, not-true, not-false}
 use Rattle.plan.specs.Plan.{stages, admitted}
 use Rattle.sheet.specs.declared.chain.FreeChain.the-variants as free
 use Rattle.sheet.specs.declared.survey.Surveyed.the-variants.{Corrupt, Intact}
-use Rattle.sheet.specs.Layout.{word, records, next-unused, first-lot, stage-count, first-record, plan-words}
-use Rattle.sheet.specs.Read.{read-lots, header-ok}
+use Rattle.sheetmodel.specs.Layout.{word, records, next-unused, first-lot, stage-count, first-record, plan-words}
+use Rattle.sheetmodel.specs.Read.{read-lots, header-ok}
 use Rattle.sheet.specs.Survey.{nothing-found, lots-survey}
-use Rattle.sheet.proofs.Bools.{and-left, and-right}
+use Rattle.sheetmodel.proofs.Promise.{and-left, and-right}
 use Rattle.sheet.proofs.HeaderSteps.{few-stages, plan-part}
 use Rattle.sheet.proofs.SurveySteps.{by-code, no-header}
 use Rattle.sheet.proofs.survey.survey.Statement.{statement}

@@ -1,7 +1,7 @@
 -- `sheet::add_to` meets its contract. Assumes nothing.
 use mathlib.Core.Path.{refl}
 use borrow.Author.Needs.{needs}
-use Rattle.sheet.specs.Calls.{add-to}
+use Rattle.sheetmodel.specs.Calls.{add-to}
 use Rattle.sheet.proofs.totals.add_to.Statement.{statement}
 use Rattle.sheet.proofs.totals.add_to.Tie as tie
 

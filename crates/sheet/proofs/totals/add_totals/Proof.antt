@@ -4,8 +4,8 @@ use Prim.Native.Nat.{ℕ, _≤_}
 use mathlib.Core.Path.{_≡_}
 use native.Mathlib.Omega.{arith}
 use borrow.Author.Needs.{needs}
-use Rattle.sheet.specs.Layout.{word}
-use Rattle.sheet.specs.Calls.{add-totals}
+use Rattle.sheetmodel.specs.Layout.{word}
+use Rattle.sheetmodel.specs.Calls.{add-totals}
 use Rattle.sheet.proofs.TotalsKept.{lots-total-in, other-kept}
 use Rattle.sheet.proofs.totals.add_totals.Statement.{statement}
 use Rattle.sheet.proofs.totals.add_totals.Tie as tie

@@ -1,6 +1,6 @@
 -- `sheet::add_inspection` meets its contract. Assumes nothing.
 use borrow.Author.Needs.{needs}
-use Rattle.sheet.specs.Calls.{with-inspection}
+use Rattle.sheetmodel.specs.Calls.{with-inspection}
 use Rattle.sheet.proofs.writing.add_inspection.Statement.{statement}
 use Rattle.sheet.proofs.writing.add_inspection.Tie as tie
 

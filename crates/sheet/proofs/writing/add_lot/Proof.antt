@@ -1,6 +1,6 @@
 -- `sheet::add_lot` meets its contract. Assumes nothing.
 use borrow.Author.Needs.{needs}
-use Rattle.sheet.specs.Calls.{with-lot}
+use Rattle.sheetmodel.specs.Calls.{with-lot}
 use Rattle.sheet.proofs.writing.add_lot.Statement.{statement}
 use Rattle.sheet.proofs.writing.add_lot.Tie as tie
 

@@ -1,7 +1,7 @@
 -- `sheet::remove_newest` meets its contract. Assumes nothing.
 use native.Mathlib.Omega.{arith}
 use borrow.Author.Needs.{needs}
-use Rattle.sheet.specs.Calls.{without-newest}
+use Rattle.sheetmodel.specs.Calls.{without-newest}
 use Rattle.sheet.proofs.Unlinked.{unlinked-newest}
 use Rattle.sheet.proofs.writing.remove_newest.Statement.{statement}
 use Rattle.sheet.proofs.writing.remove_newest.Tie as tie

@@ -1,0 +1,49 @@
+-- Estimates. Document 01, "Lists, events, estimates"; 002, 8.3.
+use Prim.Native.Nat.{ℕ, _-_}
+use mathlib.Core.Bool.{cond}
+use mathlib.Core.List.{List, [], _∷_}
+use lib.ListN.{length}
+use lib.Dec.{ltb, eqb}
+use Rattle.plan.specs.declared.counts.Counts.{Counts}
+use Rattle.plan.specs.Plan.{Stage, stages}
+use Rattle.plan.specs.Counts.{counts}
+use Rattle.plan.specs.Refusal.{Refusal}
+use Rattle.sheetmodel.specs.declared.reply.Estimate.{Estimate}
+use Rattle.sheetmodel.specs.declared.reply.Estimated.{Estimated}
+use Rattle.sheetmodel.specs.declared.reply.Estimated.the-variants as estimated
+use Rattle.sheetmodel.specs.Layout.{plan-words}
+use Rattle.sheetmodel.specs.Contents.{history}
+use Rattle.sheetmodel.specs.Read.{undecided}
+use Rattle.sheetmodel.specs.Calls.{Outcome, outcome, row, lot-rows, lot, lot-answer}
+use Rattle.sheetmodel.specs.History.{without-last}
+
+-- each class's count among the units before the last, over their number; four zeros for one unit. A plan of one stage needs
+-- no more than the history
+abbrev pub estimate-of : List Stage → List ℕ → Estimate
+estimate-of p h = record {
+  good = counts (without-last h) .good;
+  marginal = counts (without-last h) .marginal;
+  bad = counts (without-last h) .bad;
+  over = length h - 1;
+}
+
+unfoldable pub estimate-rows : ℕ → List ℕ → List Refusal
+estimate-rows n w =
+    lot-rows n w (row 10 (undecided (lot-answer w (lot n w))) ∷ row 15 (ltb 1 (length (stages (plan-words w)))) ∷ [])
+
+-- estimate writes nothing
+unfoldable pub estimate : ℕ → List ℕ → Outcome Estimated
+estimate n w =
+    outcome estimated.Refused (estimate-rows n w) w (estimated.Estimate (estimate-of (stages (plan-words w)) (history (lot n w)))) w
+
+-- ---- one unit less
+
+-- the units of a class; every class but 0 and 2 counts as marginal
+abbrev pub units-of-class : ℕ → Counts → ℕ
+units-of-class x c = cond (eqb x 0) (c .good) (cond (eqb x 2) (c .bad) (c .marginal))
+
+abbrev pub without-unit : ℕ → Counts → Counts
+without-unit x c =
+    cond (eqb x 0) (record { good = c .good - 1; marginal = c .marginal; bad = c .bad })
+    (cond (eqb x 2) (record { good = c .good; marginal = c .marginal; bad = c .bad - 1 })
+    (record { good = c .good; marginal = c .marginal - 1; bad = c .bad }))

@@ -1,0 +1,11 @@
+pub mod Layout
+pub mod Contents
+pub mod Holds
+pub mod Read
+pub mod Reply
+pub mod Calls
+pub mod History
+pub mod Estimate
+pub mod Demand1
+pub mod Demand3
+pub mod Corollaries
