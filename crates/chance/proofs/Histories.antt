@@ -21,16 +21,12 @@ use Rattle.chance.specs.declared.mean.Weights.{Weights}
 use Rattle.chance.specs.Bounds.{terminal, sequence-value}
 use Rattle.chance.specs.Chance.{scale, chance-value, indicator}
 
-classes-append : (h x : List ℕ) → Classes h → Classes x → Classes (h ++ x)
-classes-append [] x a b = b
-classes-append (k ∷ h) x a b = (a .0, classes-append h x (a .1) b)
-
 pub no-history : (p : List Stage) → History p []
 no-history p = record { classes = tt; undecided-before = λ y l. absurd (omega arith) }
 
 -- an undecided history and one unit more
 pub one-unit-more : (p : List Stage) (h : List ℕ) (x : ℕ) → x ≤ 2 → History p h → earliest p (counts h) ≡ GoOn → History p (h ++ (x ∷ []))
-one-unit-more p h x l k e = record { classes = classes-append h (x ∷ []) (k .classes) (l, tt); undecided-before = before }
+one-unit-more p h x l k e = record { classes = counting .appended h (x ∷ []) (k .classes) (l, tt); undecided-before = before }
   where
     before : (y : ℕ) → y < length (h ++ (x ∷ [])) → earliest p (counts (take y (h ++ (x ∷ [])))) ≡ GoOn
     before y m =
@@ -41,7 +37,7 @@ one-unit-more p h x l k e = record { classes = classes-append h (x ∷ []) (k .c
         (λ q. k .undecided-before y q) (eq-or-lt-of-le within))
 
 completion : (p : List Stage) (h x : List ℕ) → Classes h → Classes x → length h + length x ≡ total p → Completion p h (h ++ x)
-completion p h x a b e = record { complete = length-append h x ∙ e; classes = classes-append h x a b; begins = take-append-seam h x }
+completion p h x a b e = record { complete = length-append h x ∙ e; classes = counting .appended h x a b; begins = take-append-seam h x }
 
 module _ (p : List Stage) (promise : Promise p) (weights : Counts → Weights) where
   -- the value of a complete sample that begins with the history h: the whole scale if it is accepted

@@ -4,26 +4,15 @@ use native.Mathlib.Omega.{arith}
 use native.Mathlib.Nat.{pow-suc, pow-zero, pow-le-pow-right}
 use native.Mathlib.Numerals.{add-one}
 use mathlib.Core.Path.{_≡_, refl, ap, sym, _∙_}
-use mathlib.Core.Bool.{Bool, true, false, cond, _&&_}
+use mathlib.Core.Bool.{Bool, true, false, cond, and-false}
 use mathlib.Core.Option.{Option, none, some}
 use mathlib.Core.List.{List, [], _∷_, _++_}
 use lib.ListN.{length, getD, drop, length-append, drop-of-length-le}
 use lib.Seq.{drop-cons}
 use lib.Dec.{leb, ltb}
 use borrow.Author.Tests.{le-leb, lt-leb, lt-ltb, le-ltb, ltb-true, ltb-false, leb-true}
+use Rattle.plan.proofs.Bools.{and-left, and-right}
 use Rattle.command.specs.Decimal.{largest, zero-byte, digit-byte, is-digit, with-digit, with-digits, up-to-largest, number, digits, printed, Read-back}
-
-and-left : (a b : Bool) → (a && b) ≡ true → a ≡ true
-and-left true b e = refl
-and-left false b e = e
-
-and-right : (a b : Bool) → (a && b) ≡ true → b ≡ true
-and-right true b e = e
-and-right false b e = cc
-
-pub and-false : (b : Bool) → (b && false) ≡ false
-and-false true = refl
-and-false false = refl
 
 -- ---- one digit more at the end
 

@@ -2,7 +2,7 @@
 use Prim.Native.Nat.{ℕ, _+_, _≤_, _<_}
 use native.Mathlib.Omega.{arith}
 use mathlib.Core.Path.{_≡_, refl, ap, sym, _∙_}
-use mathlib.Core.Bool.{Bool, true, false, cond}
+use mathlib.Core.Bool.{Bool, true, false, cond, and-false}
 use mathlib.Core.Option.{Option, none, some}
 use mathlib.Core.List.{List, [], _∷_}
 use lib.Dec.{leb}
@@ -13,7 +13,6 @@ use Rattle.command.specs.Command.{Command, fresh, opening, inspecting, s
 use Rattle.command.specs.Fields.{until-space, fields-after}
 use Rattle.command.specs.Read.{most-numbers, as-count}
 use Rattle.command.specs.declared.arguments.Count.the-variants as code
-use Rattle.command.proofs.Digits.{and-false}
 use Rattle.command.proofs.OneField.{first-field, until-within}
 
 either : (t : Bool) (o : Option Command) → cond t o o ≡ o

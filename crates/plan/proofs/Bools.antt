@@ -1,20 +1,15 @@
--- Laws of `&&`. Assumes nothing.
-use mathlib.Core.Path.{_≡_, refl}
-use mathlib.Core.Bool.{Bool, true, false, _&&_, and-eq-true-iff}
-
-pub and-false : (b : Bool) → (b && false) ≡ false
-and-false true = refl
-and-false false = refl
-
-pub and-true : (b : Bool) → (b && true) ≡ b
-and-true true = refl
-and-true false = refl
+-- Laws of `&&` beyond the library's, for all crates. Assumes nothing.
+use mathlib.Core.Path.{_≡_}
+use mathlib.Core.Bool.{Bool, true, false, _&&_, and-eq-true-iff, and-false}
 
 pub and-left : (a b : Bool) → a && b ≡ true → a ≡ true
 and-left a b e = and-eq-true-iff a b .0 e .0
 
 pub and-right : (a b : Bool) → a && b ≡ true → b ≡ true
 and-right a b e = and-eq-true-iff a b .0 e .1
+
+pub and-both : {a b : Bool} → a ≡ true → b ≡ true → (a && b) ≡ true
+and-both p q = rw (p, q)
 
 pub first-false : (a b c : Bool) → a ≡ false → (a && b && c) ≡ false
 first-false a b c e = simp e

@@ -1,5 +1,5 @@
 -- What the proofs of several functions use, and the promises to the crates above (Promise).
-mod Bools
+pub mod Bools
 mod Units
 mod Stages
 mod Rows

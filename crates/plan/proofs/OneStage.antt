@@ -2,7 +2,7 @@
 -- Assumes nothing.
 use Prim.Native.Nat.{ℕ, _+_, _-_, _≤_, _<_}
 use mathlib.Core.Path.{_≡_, refl, sym, ap, ap₂, _∙_}
-use mathlib.Core.Bool.{Bool, true, false, cond, _&&_, _||_}
+use mathlib.Core.Bool.{Bool, true, false, cond, _&&_, _||_, or-true}
 use mathlib.Core.List.{List, [], _∷_}
 use native.Mathlib.Omega.{arith}
 use native.Mathlib.Decide.{decLt}
@@ -22,10 +22,6 @@ use Rattle.plan.proofs.Ends.{current-here, current-past, end-past, end-
 use Rattle.plan.proofs.Limits.{Limits, tests}
 use Rattle.plan.proofs.Stages.{stages-more, after-none}
 use Rattle.plan.proofs.Units.{add-good, add-bad}
-
-or-true : (b : Bool) → b || true ≡ true
-or-true true = refl
-or-true false = refl
 
 or-else-none : (a : Answer) → or-else a GoOn ≡ a
 or-else-none GoOn = refl

@@ -3,7 +3,7 @@
 use Prim.Native.Nat.{ℕ, _≤_, _<_}
 use mathlib.Core.Path.{_≡_, refl}
 use mathlib.Core.Logic.{_⊎_, inl, inr}
-use mathlib.Core.Bool.{Bool, true, false, cond, _&&_, _||_}
+use mathlib.Core.Bool.{Bool, true, false, cond, _&&_, _||_, or-true}
 use native.Mathlib.Omega.{arith}
 use lib.Dec.{leb}
 use borrow.Author.Tests.{leb-true, le-leb, lt-leb}
@@ -152,10 +152,6 @@ not-accepted s c h = simp (lt-leb (c .bad) (s .accept2) h) (cond-not-accept (rej
 
 pub not-rejected : (s : Stage) (c : Counts) → c .bad < s .reject2 → nongood c < s .reject1 → 1 ≤ rank (at-end s c)
 not-rejected s c h k = simp (lt-leb (s .reject2) (c .bad) h, lt-leb (s .reject1) (nongood c) k) (cond-not-reject (accepts s (c .bad) (nongood c)))
-
-or-true : (b : Bool) → b || true ≡ true
-or-true true = refl
-or-true false = refl
 
 pub rejected : (s : Stage) (c : Counts) → (s .reject1 ≤ nongood c) ⊎ (s .reject2 ≤ c .bad) → at-end s c ≡ Reject
 rejected s c (inl h) = simp (le-leb (s .reject1) (nongood c) h, or-true)

@@ -57,6 +57,7 @@ promise w e =
 pub counting : Counting
 unfolding counts
 counting = record {
+  appended = verdicts.classes-append;
   empty = refl;
   one-more = λ h x. counts-append h (x ∷ []);
   length-of = units-counts;

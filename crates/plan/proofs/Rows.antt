@@ -2,12 +2,11 @@
 use Prim.Native.Nat.{ℕ, _+_}
 use native.Mathlib.Nat.{add-assoc, add-zero}
 use mathlib.Core.Path.{_≡_, refl, sym}
-use mathlib.Core.Bool.{Bool, true, false, cond, _&&_}
+use mathlib.Core.Bool.{Bool, true, false, cond, _&&_, and-false, and-true}
 use mathlib.Core.List.{List, [], _∷_}
 use lib.Dec.{leb, ltb}
 use Rattle.plan.specs.Plan.{Stage, total, each, never-falls, last-step-rises, apart, below-ends, last, last-reject1, row-rules, rules}
 use Rattle.plan.specs.Row.{row-step, row-end}
-use Rattle.plan.proofs.Bools.{and-false, and-true}
 
 -- no stage is left
 abbrev pub none-left : List Stage → Bool

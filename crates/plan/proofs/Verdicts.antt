@@ -23,7 +23,7 @@ use Rattle.plan.proofs.Prefix.{Ended, ended, worst, best, reached}
 
 -- ---- the completion by units of one class
 
-classes-append : (h r : List ℕ) → Classes h → Classes r → Classes (h ++ r)
+pub classes-append : (h r : List ℕ) → Classes h → Classes r → Classes (h ++ r)
 classes-append [] r c d = d
 classes-append (x ∷ h) r c d = (c .0, classes-append h r (c .1) d)
 

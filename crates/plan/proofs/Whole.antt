@@ -2,12 +2,11 @@
 use Prim.Native.Nat.{ℕ, _*_, _%_, _≤_, _<_}
 use native.Mathlib.Omega.{arith}
 use mathlib.Core.Path.{_≡_}
-use mathlib.Core.Bool.{false}
+use mathlib.Core.Bool.{false, and-false}
 use mathlib.Core.List.{List}
 use lib.ListN.{length}
 use borrow.Author.Tests.{le-leb, lt-leb, eq-eqb, ne-eqb}
 use Rattle.plan.specs.Plan.{stages, rules, admitted}
-use Rattle.plan.proofs.Bools.{and-false}
 use Rattle.plan.proofs.Stages.{stage-count}
 
 module _ (w : List ℕ) where

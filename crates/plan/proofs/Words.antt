@@ -2,14 +2,14 @@
 use Prim.Native.Nat.{ℕ, _+_, _≤_, _<_}
 use native.Mathlib.Omega.{arith}
 use mathlib.Core.Path.{_≡_, refl, ap, _∙_}
-use mathlib.Core.Bool.{Bool, true, false, _&&_}
+use mathlib.Core.Bool.{Bool, true, false, _&&_, and-false, and-true}
 use mathlib.Core.List.{List, _∷_}
 use lib.ListN.{length, getD}
 use lib.Dec.{leb, ltb}
 use borrow.Author.Tests.{ltb-true, ltb-false, le-leb, lt-leb}
 use Rattle.plan.specs.Plan.{Stage, stages, first, total, rules}
 use Rattle.plan.specs.Row.{row-step, row-end}
-use Rattle.plan.proofs.Bools.{and-false, and-true, first-false, mid-false, both-true}
+use Rattle.plan.proofs.Bools.{first-false, mid-false, both-true}
 use Rattle.plan.proofs.Rows.{none-left, rules-one, rules-more}
 use Rattle.plan.proofs.Stages.{after, second, stages-more, stages-none, after-none, after-more, length-after}
 

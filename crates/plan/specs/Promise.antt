@@ -124,8 +124,9 @@ abbrev pub Full-as-written : Type 0
 Full-as-written = (end : ℕ) (s : Stage) (c : Counts) →
     accepts s (end - nonbad c) (end - c .good) ≡ (leb (end - s .accept2) (nonbad c) && leb (end - s .accept1) (c .good))
 
--- counts, of every history
+-- counts and classes, of every history
 pub record Counting : Type 0 where
+  pub appended : (h x : List ℕ) → Classes h → Classes x → Classes (h ++ x)
   pub empty : counts [] ≡ no-units
   pub one-more : (h : List ℕ) (x : ℕ) → counts (h ++ (x ∷ [])) ≡ add-units x 1 (counts h)
   pub length-of : (h : List ℕ) → units (counts h) ≡ length h

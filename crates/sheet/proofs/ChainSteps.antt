@@ -1,7 +1,7 @@
 -- One step along a chain of inspections, as the code takes it. Assumes nothing.
 use Prim.Native.Nat.{ℕ, zero, suc, _-_, _<_}
 use mathlib.Core.Path.{_≡_, refl, sym, ap, ap₂, _∙_}
-use mathlib.Core.Bool.{Bool, true, false, cond, _&&_}
+use mathlib.Core.Bool.{Bool, true, false, cond, _&&_, and-false, and-true}
 use mathlib.Core.Option.{Option, none, some}
 use mathlib.Core.List.{List, [], _∷_}
 use native.Mathlib.Omega.{arith}
@@ -24,14 +24,6 @@ use Rattle.sheetmodel.proofs.Promise.{classes-cons, length-classes, sound-inspe
 abbrev pub after-older : List Stage → ℕ → ℕ → ℕ → Chain → Chain
 after-older p test n x Cut = Cut
 after-older p test n x (Whole c) = cond (may-go-on p test n c) (Whole (add-units x 1 c)) Cut
-
-and-true : (b : Bool) → (b && true) ≡ b
-and-true true = refl
-and-true false = refl
-
-and-false : (b : Bool) → (b && false) ≡ false
-and-false true = refl
-and-false false = refl
 
 pub classes-counted : (i : Inspection) (is : List Inspection) → counts (classes (i ∷ is)) ≡ add-units (i .class) 1 (counts (classes is))
 classes-counted i is = ap counts (classes-cons i is) ∙ counting .one-more (classes is) (i .class)

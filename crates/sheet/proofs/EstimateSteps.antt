@@ -23,7 +23,8 @@ use Rattle.sheetmodel.specs.Holds.{Inspections}
 use Rattle.sheetmodel.specs.Read.{undecided}
 use Rattle.sheetmodel.specs.Calls.{row, corrupt, on-sheet, lot, lot-answer}
 use Rattle.sheetmodel.specs.History.{without-last}
-use Rattle.sheetmodel.specs.Estimate.{estimate-of, estimate-rows, estimate, units-of-class, without-unit}
+use Rattle.sheetmodel.specs.Estimate.{estimate-of, estimate-rows, estimate}
+use Rattle.sheet.specs.Estimating.{units-of-class, without-unit}
 use Rattle.sheet.specs.Writes.{In-words}
 use Rattle.sheet.specs.Locating.{found-on, located}
 use Rattle.sheetmodel.proofs.Promise.{classes-cons, length-classes, without-last-snoc}

@@ -1,7 +1,7 @@
 -- What the walk over the lots finds is the lot of the number, and the whole survey is by the walks. Assumes nothing.
 use Prim.Native.Nat.{ℕ, _+_, _≤_, _<_}
 use mathlib.Core.Path.{_≡_, refl, sym, ap, ap₂, _∙_}
-use mathlib.Core.Bool.{Bool, true, false, cond, _&&_}
+use mathlib.Core.Bool.{Bool, true, false, cond, _&&_, and-false, and-true}
 use mathlib.Core.Option.{Option, none, some}
 use mathlib.Core.List.{List, [], _∷_}
 use native.Mathlib.Nat.{add-zero}
@@ -81,14 +81,6 @@ module _ (w : List ℕ) (hi n : ℕ) where
           ∙ ap (λ (u : ℕ). record { used = u; before = f .before; at = m .at; counts = counts (history m) }) sum)
 
 -- ---- the whole survey
-
-and-true : (b : Bool) → (b && true) ≡ b
-and-true true = refl
-and-true false = refl
-
-and-false : (b : Bool) → (b && false) ≡ false
-and-false true = refl
-and-false false = refl
 
 -- by the lots and the free records
 abbrev pub by-walks : List ℕ → Surveyed → FreeChain → Surveyed

@@ -1,5 +1,6 @@
 -- What the walk tests is enough: undecided before the newest inspection and at the ends of stages is undecided before each.
 -- Assumes nothing.
+use Rattle.plan.proofs.Bools.{and-left, and-right}
 use Prim.Native.Nat.{ℕ, _-_, _≤_, _<_}
 use mathlib.Core.Path.{_≡_, refl, sym, _∙_}
 use mathlib.Core.Logic.{_⊎_, inl, inr, ⊎-elim}
@@ -19,7 +20,7 @@ use Rattle.plan.proofs.Promise.{promise}
 use Rattle.sheetmodel.specs.Contents.{Inspection, classes}
 use Rattle.sheetmodel.specs.Read.{undecided, undecided-before}
 use Rattle.sheet.specs.Survey.{next-test, tested}
-use Rattle.sheetmodel.proofs.Promise.{and-left, and-right, classes-cons, length-classes, goes-on, test}
+use Rattle.sheetmodel.proofs.Promise.{classes-cons, length-classes, goes-on, test}
 
 -- undecided before each is undecided where the walk tests
 pub tests-hold : (p : List Stage) (t : ℕ) (is : List Inspection) → undecided-before p is ≡ true → tested p t is ≡ true

@@ -1,4 +1,5 @@
 -- A record in use lies within the sheet. Assumes nothing.
+use Rattle.plan.proofs.Bools.{and-left, and-right}
 use Prim.Native.Nat.{ℕ, _+_, _*_, _<_}
 use mathlib.Core.Path.{_≡_}
 use mathlib.Core.Bool.{true}
@@ -10,7 +11,6 @@ use borrow.Author.Tests.{ltb-true}
 use Rattle.sheetmodel.specs.Layout.{word, next-unused, first-record}
 use Rattle.sheetmodel.specs.Read.{in-use}
 use Rattle.sheet.specs.Survey.{Sized, is-inspection, is-free, is-lot}
-use Rattle.sheetmodel.proofs.Promise.{and-left, and-right}
 
 pub record-within : (w : List ℕ) (at : ℕ) → Sized w → in-use first-record w at ≡ true → 4 * at + 3 < length w
 record-within w at s e = omega (arith, s .room, ltb-true at (word w next-unused) (and-right (leb first-record at) (ltb at (word w next-unused)) e))

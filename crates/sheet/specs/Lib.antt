@@ -1,3 +1,4 @@
 pub mod Survey
 pub mod Writes
 pub mod Locating
+pub mod Estimating

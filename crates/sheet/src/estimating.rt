@@ -11,7 +11,8 @@ use sheetmodel::Estimate;
 use sheetmodel::Estimated;
 ghost use mathlib.Core.Path.{_≡_};
 ghost use Prim.Native.Nat.{_≤_};
-ghost use Rattle.sheetmodel.specs.Estimate.{estimate, units-of-class, without-unit};
+ghost use Rattle.sheetmodel.specs.Estimate.{estimate};
+ghost use Rattle.sheet.specs.Estimating.{units-of-class, without-unit};
 
 // One unit less of a class.
 fn without_unit(class: u32, c: Counts) -> Counts

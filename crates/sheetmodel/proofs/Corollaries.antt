@@ -22,7 +22,7 @@ use Rattle.sheetmodel.specs.Calls.{full, lot, lot-answer, shown, look, l
 use Rattle.sheetmodel.specs.History.{Call, opening, inspecting, striking, closing, looking, call, Histories, classes-of, without-last, after-grant, feed, run}
 use Rattle.sheetmodel.specs.Demand3.{after}
 use Rattle.sheetmodel.specs.Corollaries.{Ascending, Filled, Full-exactly, Intact, lot-of, Full-reply, Same-histories, Corollaries}
-use Rattle.sheetmodel.proofs.Bools.{and-true, and-left, and-right}
+use Rattle.plan.proofs.Bools.{and-both, and-left, and-right}
 use Rattle.sheetmodel.proofs.HistoryLaws.{without-last-snoc}
 use Rattle.sheetmodel.proofs.Outcomes.{by-rows}
 use Rattle.sheetmodel.proofs.Replies.{own-rows, other-rows, values, reply-by, reply-is}
@@ -140,7 +140,7 @@ module _ (w : List ℕ) (s : Contents) (h : Holds first-record w s) where
   unfolding full
   filled-full e =
       let z = free-none (s .free) (h .free) (omega (arith, h .count, h .room)) in
-      and-true (eq-eqb (word w first-free) 0 z) (le-leb (records w) (word w next-unused) (omega (arith, h .count)))
+      and-both (eq-eqb (word w first-free) 0 z) (le-leb (records w) (word w next-unused) (omega (arith, h .count)))
 
 full-exactly : {p w : List ℕ} {H : Histories} (inv : Inv first-record p w H) → Full-exactly p (record { words = w; histories = H })
 full-exactly {p} {w} {H} inv =

@@ -15,7 +15,7 @@ use Rattle.sheetmodel.specs.Layout.{size-ok, word, plan-words, accepted-
 use Rattle.sheetmodel.specs.Calls.{fresh, fresh-rows, fresh-words}
 use Rattle.sheetmodel.specs.History.{no-histories}
 use Rattle.sheetmodel.specs.Demand3.{no-history}
-use Rattle.sheetmodel.proofs.Bools.{and-left, and-right}
+use Rattle.plan.proofs.Bools.{and-left, and-right}
 use Rattle.sheetmodel.proofs.Outcomes.{by-rows}
 use Rattle.sheetmodel.proofs.Invariant.{Inv}
 

@@ -18,7 +18,7 @@ use Rattle.sheetmodel.specs.Contents.{Inspection, Lot, classes}
 use Rattle.sheetmodel.specs.Holds.{Undecided-before, All-undecided-before}
 use Rattle.sheetmodel.specs.History.{without-last}
 use Rattle.sheetmodel.specs.Read.{undecided, undecided-before, all-undecided-before}
-use Rattle.sheetmodel.proofs.Bools.{and-true, and-left, and-right}
+use Rattle.plan.proofs.Bools.{and-both, and-left, and-right}
 
 pub classes-cons : (i : Inspection) (is : List Inspection) → classes (i ∷ is) ≡ classes is ++ (i .class ∷ [])
 classes-cons i is = reverse-cons (i .class) (map (λ (k : Inspection). k .class) is)
@@ -63,7 +63,7 @@ module _ (p : List Stage) where
   test [] h = refl
   test (i ∷ is) h =
       let o = subst (Undecided-before p) (classes-cons i is) h in
-      and-true (ap undecided (before-last (classes is) (i .class) o)) (test is (one-less (classes is) (i .class) o))
+      and-both (ap undecided (before-last (classes is) (i .class) o)) (test is (one-less (classes is) (i .class) o))
 
   pub undecided-facts : (ls : List Lot) → all-undecided-before p ls ≡ true → All-undecided-before p ls
   undecided-facts [] e = tt
@@ -72,4 +72,4 @@ module _ (p : List Stage) where
 
   pub undecided-tests : (ls : List Lot) → All-undecided-before p ls → all-undecided-before p ls ≡ true
   undecided-tests [] h = refl
-  undecided-tests (l ∷ ls) h = and-true (test (l .inspections) (h .0)) (undecided-tests ls (h .1))
+  undecided-tests (l ∷ ls) h = and-both (test (l .inspections) (h .0)) (undecided-tests ls (h .1))

@@ -20,7 +20,7 @@ use Rattle.sheetmodel.specs.Reply.{Reply}
 use Rattle.sheetmodel.specs.Calls.{Outcome}
 use Rattle.sheetmodel.specs.History.{Call, Histories, feed, with-history}
 use Rattle.sheetmodel.specs.Demand3.{Sums}
-use Rattle.sheetmodel.proofs.Bools.{and-true}
+use Rattle.plan.proofs.Bools.{and-both}
 use Rattle.sheetmodel.proofs.Words.{part-same}
 use Rattle.sheetmodel.proofs.Reading.{reads}
 use Rattle.sheetmodel.proofs.Lots.{below, from, below-from, find-same, find-skip}
@@ -41,7 +41,7 @@ Keeping p c H o = Inv first-record p (o .words) (feed c (o .reply) H)
 
 module _ {start : ℕ} (base : first-record ≤ start) {p w : List ℕ} {H : Histories} (inv : Inv start p w H) where
   pub size-is : size-ok w ≡ true
-  size-is = and-true (le-leb 48 (length w) (inv .long)) (le-leb (length w) 65536 (inv .short))
+  size-is = and-both (le-leb 48 (length w) (inv .long)) (le-leb (length w) 65536 (inv .short))
 
   pub read-is : read-from start w ≡ some (inv .contents)
   read-is = reads start (omega arith) w (inv .contents) .1 (inv .holds)

@@ -2,7 +2,6 @@
 -- every call keeps. Promise has what crate `sheet` cites.
 
 -- on the way to these: laws of the words, of chains and of each call
-mod Bools
 mod Words
 mod Chains
 mod HistoryLaws

@@ -1,5 +1,4 @@
 -- What crate `sheet` cites in the proofs of its code: laws of the words, of what is read, of histories and of the records.
-pub use Rattle.sheetmodel.proofs.Bools.{and-left, and-right}
 pub use Rattle.sheetmodel.proofs.Words.{Same, same-put, same-set, same-trans, word-set, word-set-here, written}
 pub use Rattle.sheetmodel.proofs.Chains.{keep-inspections}
 pub use Rattle.sheetmodel.proofs.HistoryLaws.{classes-cons, fact, goes-on, length-classes, test, without-last-snoc}

@@ -14,7 +14,7 @@ use Rattle.sheetmodel.specs.Layout.{word, field, next, newest, records, 
 use Rattle.sheetmodel.specs.Contents.{Inspection, Lot, Contents, records-of}
 use Rattle.sheetmodel.specs.Holds.{Inspections, Lots, Free, Holds}
 use Rattle.sheetmodel.specs.Read.{guard, then, serial-at, depth, in-use, read-inspections, read-free, read-lots, read-from, all-undecided-before, all-zero, header-ok, contents-ok, Reads-exactly}
-use Rattle.sheetmodel.proofs.Bools.{and-true, and-left, and-right}
+use Rattle.plan.proofs.Bools.{and-both, and-left, and-right}
 use Rattle.sheetmodel.proofs.HistoryLaws.{undecided-tests, undecided-facts}
 
 -- ---- complete: what the words hold is read
@@ -87,7 +87,7 @@ lots-fit (l ∷ ls) = omega (arith, lots-fit ls)
 
 all-zero-test : (xs : List ℕ) → ((i : ℕ) → i < length xs → getD xs i 0 ≡ 0) → all-zero xs ≡ true
 all-zero-test [] h = refl
-all-zero-test (x ∷ xs) h = and-true (eq-eqb x 0 (h 0 (omega arith))) (all-zero-test xs (λ i b. h (suc i) (omega arith)))
+all-zero-test (x ∷ xs) h = and-both (eq-eqb x 0 (h 0 (omega arith))) (all-zero-test xs (λ i b. h (suc i) (omega arith)))
 
 unused-word : (w : List ℕ) (i : ℕ) → 5 * word w stage-count + i < plan-room → getD (unused-stages w) i 0 ≡ word w (plan-start + (5 * word w stage-count + i))
 unused-word w i b =

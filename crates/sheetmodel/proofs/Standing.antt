@@ -1,9 +1,9 @@
 -- A standing history: what the plan layer promises of the inspections of a lot. Nothing else of the plan layer is used.
 -- Assumes nothing.
-use Prim.Native.Nat.{ℕ, _≤_}
+use Prim.Native.Nat.{ℕ}
 use mathlib.Core.Path.{_≡_, refl}
 use mathlib.Core.Bool.{true}
-use mathlib.Core.List.{List, [], _∷_, _++_}
+use mathlib.Core.List.{List, [], _∷_}
 use native.Mathlib.Omega.{arith}
 use Rattle.plan.specs.declared.stage.Answer.{Answer}
 use Rattle.plan.specs.declared.stage.Answer.the-variants.{GoOn, Accept, Reject}
@@ -12,20 +12,16 @@ use Rattle.plan.specs.Counts.{counts}
 use Rattle.plan.specs.Stopping.{earliest}
 use Rattle.plan.specs.Sample.{Classes, All-have}
 use Rattle.plan.specs.Promise.{History}
-use Rattle.plan.proofs.Promise.{promise}
+use Rattle.plan.proofs.Promise.{promise, counting}
 use Rattle.sheetmodel.specs.Layout.{next}
 use Rattle.sheetmodel.specs.Contents.{Inspection, classes}
 use Rattle.sheetmodel.specs.Holds.{Inspections, Undecided-before}
 use Rattle.sheetmodel.specs.Demand3.{Right-answer}
 use Rattle.sheetmodel.proofs.HistoryLaws.{classes-cons}
 
-classes-snoc : (xs : List ℕ) (c : ℕ) → Classes xs → c ≤ 2 → Classes (xs ++ (c ∷ []))
-classes-snoc [] c h k = (k, tt)
-classes-snoc (x ∷ xs) c h k = (h .0, classes-snoc xs c (h .1) k)
-
 known : (start : ℕ) (w : List ℕ) (hi lot at : ℕ) (is : List Inspection) → Inspections start w hi lot is at → Classes (classes is)
 known start w hi lot at [] h = tt
-known start w hi lot at (i ∷ is) h = rw (classes-cons i is) (classes-snoc (classes is) (i .class) (known start w hi lot (next w (i .at)) is (h .1)) (h .0 .known))
+known start w hi lot at (i ∷ is) h = rw (classes-cons i is) (counting .appended (classes is) (i .class ∷ []) (known start w hi lot (next w (i .at)) is (h .1)) (h .0 .known, tt))
 
 pub is-history : (p : List Stage) (start : ℕ) (w : List ℕ) (hi lot at : ℕ) (is : List Inspection) → Inspections start w hi lot is at → Undecided-before p (classes is) → History p (classes is)
 is-history p start w hi lot at is h o = record { classes = known start w hi lot at is h; undecided-before = o }

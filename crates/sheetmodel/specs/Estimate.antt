@@ -1,10 +1,8 @@
 -- Estimates. Document 01, "Lists, events, estimates"; 002, 8.3.
 use Prim.Native.Nat.{ℕ, _-_}
-use mathlib.Core.Bool.{cond}
 use mathlib.Core.List.{List, [], _∷_}
 use lib.ListN.{length}
-use lib.Dec.{ltb, eqb}
-use Rattle.plan.specs.declared.counts.Counts.{Counts}
+use lib.Dec.{ltb}
 use Rattle.plan.specs.Plan.{Stage, stages}
 use Rattle.plan.specs.Counts.{counts}
 use Rattle.plan.specs.Refusal.{Refusal}
@@ -35,15 +33,3 @@ estimate-rows n w =
 unfoldable pub estimate : ℕ → List ℕ → Outcome Estimated
 estimate n w =
     outcome estimated.Refused (estimate-rows n w) w (estimated.Estimate (estimate-of (stages (plan-words w)) (history (lot n w)))) w
-
--- ---- one unit less
-
--- the units of a class; every class but 0 and 2 counts as marginal
-abbrev pub units-of-class : ℕ → Counts → ℕ
-units-of-class x c = cond (eqb x 0) (c .good) (cond (eqb x 2) (c .bad) (c .marginal))
-
-abbrev pub without-unit : ℕ → Counts → Counts
-without-unit x c =
-    cond (eqb x 0) (record { good = c .good - 1; marginal = c .marginal; bad = c .bad })
-    (cond (eqb x 2) (record { good = c .good; marginal = c .marginal; bad = c .bad - 1 })
-    (record { good = c .good; marginal = c .marginal - 1; bad = c .bad }))

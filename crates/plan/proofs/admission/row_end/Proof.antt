@@ -1,7 +1,7 @@
 -- `plan::row_end` meets its contract: each return is what the tests so far leave of `row-end`. Assumes nothing.
+use mathlib.Core.Bool.{and-false}
 use borrow.Author.Needs.{needs}
 use borrow.Author.Tests.{lt-ltb, le-ltb, eq-eqb, ne-eqb}
-use Rattle.plan.proofs.Bools.{and-false}
 use Rattle.plan.proofs.admission.row_end.Statement.{statement}
 use Rattle.plan.proofs.admission.row_end.Tie as tie
 

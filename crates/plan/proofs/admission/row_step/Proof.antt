@@ -1,7 +1,7 @@
 -- `plan::row_step` meets its contract: each return is what the tests so far leave of `row-step`. Assumes nothing.
+use mathlib.Core.Bool.{and-false, and-true}
 use borrow.Author.Needs.{needs}
 use borrow.Author.Tests.{lt-ltb, le-ltb, le-leb, lt-leb}
-use Rattle.plan.proofs.Bools.{and-false, and-true}
 use Rattle.plan.proofs.admission.row_step.Statement.{statement}
 use Rattle.plan.proofs.admission.row_step.Tie as tie
 

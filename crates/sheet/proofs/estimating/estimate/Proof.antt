@@ -4,7 +4,7 @@ use native.Mathlib.Omega.{arith}
 use borrow.Author.Needs.{needs}
 use Rattle.sheetmodel.specs.Layout.{field, newest}
 use Rattle.sheetmodel.specs.Read.{undecided}
-use Rattle.sheetmodel.specs.Estimate.{without-unit}
+use Rattle.sheet.specs.Estimating.{without-unit}
 use Rattle.sheet.proofs.Sizes.{short-enough}
 use Rattle.sheet.proofs.LocatedFacts.{With-lot, with-lot}
 use Rattle.sheet.proofs.CallSteps.{long, lot-inside, answer-requires}

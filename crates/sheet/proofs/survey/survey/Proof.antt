@@ -1,4 +1,5 @@
 -- `sheet::survey` meets its contract: the header, the lots, the free records, and their number. Assumes nothing.
+use Rattle.plan.proofs.Bools.{and-left, and-right}
 use Prim.Native.Nat.{ℕ, _≤_}
 use mathlib.Core.Path.{_≡_, refl, sym, ap, _∙_}
 use mathlib.Core.Bool.{true}
@@ -12,7 +13,6 @@ use Rattle.sheet.specs.declared.survey.Surveyed.the-variants.{Corrupt, I
 use Rattle.sheetmodel.specs.Layout.{word, records, next-unused, first-lot, stage-count, first-record, plan-words}
 use Rattle.sheetmodel.specs.Read.{read-lots, header-ok}
 use Rattle.sheet.specs.Survey.{nothing-found, lots-survey}
-use Rattle.sheetmodel.proofs.Promise.{and-left, and-right}
 use Rattle.sheet.proofs.HeaderSteps.{few-stages, plan-part}
 use Rattle.sheet.proofs.SurveySteps.{by-code, no-header}
 use Rattle.sheet.proofs.survey.survey.Statement.{statement}
