@@ -1,0 +1,12 @@
+-- `export::haq_close` meets its contract. Assumes nothing.
+use borrow.Author.Needs.{needs}
+use Rattle.export.proofs.sheet_calls.haq_close.Statement.{statement}
+use Rattle.export.proofs.sheet_calls.haq_close.Tie as tie
+
+returns : tie.Need-returns
+returns c =
+    let call = c .before .before .before .close in
+    (rw (call .ensures .0) at (c .number-of .ensures), call .ensures .1)
+
+pub haq-close-spec : {M : Type 1} → statement M
+haq-close-spec = tie.close (tie.spec (λ c κs. search needs) (λ c κs. search needs) (λ c. search needs) returns)
