@@ -1,7 +1,12 @@
 -- What a call from C gets of a reply: the number returned, and what stands in `out` afterwards.
 use Prim.Native.Nat.{ℕ}
-use mathlib.Core.List.{List}
+use mathlib.Core.List.{List, [], _∷_}
+use lib.Ieee.{Float}
 use Rattle.sheetmodel.specs.Reply.{Reply, granted, refused}
+use Rattle.chance.specs.declared.answers.Bounded.{Bounded}
+use Rattle.chance.specs.declared.answers.Bounded.the-variants as bounded
+use Rattle.chance.specs.declared.answers.ChartAnswer.{ChartAnswer}
+use Rattle.chance.specs.declared.answers.ChartAnswer.the-variants as chart
 
 -- 0 granted, else the refusal's number
 abbrev pub number : Reply → ℕ
@@ -12,3 +17,17 @@ number (refused n) = n
 abbrev pub left : Reply → List ℕ → List ℕ
 left (granted values) out = values
 left (refused n) out = out
+
+-- low and high
+abbrev pub bounds-reply : Bounded → Reply
+bounds-reply (bounded.Pair b) = granted (b .low ∷ b .high ∷ [])
+bounds-reply (bounded.Refused n) = refused n
+
+-- a chart's values are floats, which a Reply does not hold
+abbrev pub chart-number : ChartAnswer → ℕ
+chart-number (chart.Pair c) = 0
+chart-number (chart.Refused n) = n
+
+abbrev pub chart-left : ChartAnswer → List Float → List Float
+chart-left (chart.Pair c) out = c .low ∷ c .high ∷ []
+chart-left (chart.Refused n) out = out

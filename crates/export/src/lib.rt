@@ -1,8 +1,11 @@
 // The calls for C, and for every language that calls C: a static library. Each returns 0 where the call is
 // granted, else the number of document 01's table "Refused". A refusal leaves `out` alone. A slice passes as
 // a pointer and a length, and an array as a pointer.
+mod chances;
 mod sheet_calls;
 
+pub use chances::haq_chance;
+pub use chances::haq_chart;
 pub use sheet_calls::haq_close;
 pub use sheet_calls::haq_estimate;
 pub use sheet_calls::haq_fresh;
