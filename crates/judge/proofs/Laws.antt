@@ -4,7 +4,7 @@ use native.Mathlib.Omega.{arith}
 use native.Mathlib.Decide.{decLt}
 use mathlib.Core.Path.{_≡_, refl, ap, sym, _∙_}
 use mathlib.Core.Logic.{_↔_, _≢_, _⊎_, inl, inr}
-use mathlib.Core.Bool.{true, and-eq-true-iff}
+use mathlib.Core.Bool.{Bool, true, false, and-eq-true-iff}
 use mathlib.Core.List.{List, [], _∷_}
 use lib.ListN.{length, take, getD}
 use lib.Seq.{take-take, length-take-le}
@@ -29,7 +29,8 @@ use Rattle.judge.specs.declared.list.Judged.{Judged}
 use Rattle.judge.specs.declared.list.Judged.the-variants.{Refused, Stops as Stopped-list}
 use Rattle.judge.specs.Event.{events, how-many}
 use Rattle.judge.specs.Judge.{first-stop, stop-of, are-classes, refusals, judgement, judged}
-use Rattle.judge.specs.Laws.{at, rule-of, Refused-rightly, Stop-laws, Class-laws}
+use Rattle.judge.specs.Laws.{at, rule-of, Refused-rightly, Granted-rightly, Stop-laws, Class-laws}
+use Rattle.judge.proofs.Along.{stop-within}
 use Rattle.judge.proofs.Least.{Stopped, Passed, walked, next-counts}
 use Rattle.judge.proofs.Events.{accepted, rejected}
 use Rattle.judge.proofs.FullStop.{at-acceptance, at-rejection}
@@ -40,6 +41,16 @@ pub refused-rightly : (plan list : List ℕ) → Refused-rightly plan list
 unfolding judged
 refused-rightly plan list n =
     refused-exactly Judged Refused (refusals plan list) (Stopped-list (judgement plan list)) (λ m k e. cc) (λ k e. let z : _≡_ {A = ℕ} 0 1 = cc in omega arith) n
+
+pub granted-rightly : (plan list : List ℕ) → Granted-rightly plan list
+unfolding judged
+granted-rightly plan list j = (go (admitted plan) (are-classes list) refl refl, λ f. rw (f .0, f .1, f .2))
+  where
+    go : (a b : Bool) → admitted plan ≡ a → are-classes list ≡ b → judged plan list ≡ Stopped-list j
+        → (admitted plan ≡ true) × (are-classes list ≡ true) × (j ≡ judgement plan list)
+    go false b e f g = let h : Refused 2 ≡ Stopped-list j = rw e at g in let z : _≡_ {A = ℕ} 0 1 = cc in absurd (omega arith)
+    go true false e f g = let h : Refused 7 ≡ Stopped-list j = rw (e, f) at g in let z : _≡_ {A = ℕ} 0 1 = cc in absurd (omega arith)
+    go true true e f g = let h : Stopped-list (judgement plan list) ≡ Stopped-list j = rw (e, f) at g in (e, f, cc)
 
 -- ---- stops
 
@@ -189,6 +200,7 @@ pub stop-laws : (plan list : List ℕ) → admitted plan ≡ true → Stop-laws 
 stop-laws w xs e = record {
   stops = λ way. stops w e way xs;
   not-reached = λ way. not-reached w e way xs;
+  within = λ way. stop-within w e way no-units xs;
   no-say = λ way. no-say w e way xs;
   full-verdict = λ n. promise w e .staged-sound Full xs _ _ (is-stop w e (Staged Full) xs n);
   one-stage = λ n. agree w e n no-units xs;

@@ -2,6 +2,7 @@
 use Prim.Native.Nat.{ℕ, _≤_}
 use mathlib.Core.Path.{_≡_}
 use mathlib.Core.Logic.{_↔_, _≢_}
+use mathlib.Core.Bool.{true}
 use mathlib.Core.List.{List}
 use lib.ListN.{length, take, getD}
 use Rattle.plan.specs.declared.stage.Answer.{Answer}
@@ -9,15 +10,16 @@ use Rattle.plan.specs.declared.stage.Answer.the-variants.{GoOn, Reject}
 use Rattle.plan.specs.declared.ways.StageWay.the-variants.{Semi, Full}
 use Rattle.plan.specs.declared.ways.Way.{Way}
 use Rattle.plan.specs.declared.ways.Way.the-variants.{Staged, Earliest}
-use Rattle.plan.specs.Plan.{stages}
+use Rattle.plan.specs.Plan.{stages, total, admitted}
 use Rattle.plan.specs.Counts.{units, counts}
 use Rattle.plan.specs.Stopping.{answer}
 use Rattle.plan.specs.Sample.{All-have, Rule, Stops}
 use Rattle.plan.specs.Refusal.{First}
 use Rattle.judge.specs.declared.stop.Stop.{Stop}
-use Rattle.judge.specs.declared.list.Judged.the-variants.{Refused}
+use Rattle.judge.specs.declared.list.Judgement.{Judgement}
+use Rattle.judge.specs.declared.list.Judged.the-variants.{Refused, Stops as Stopped-list}
 use Rattle.judge.specs.Event.{events, how-many}
-use Rattle.judge.specs.Judge.{stop-of, refusals, judged}
+use Rattle.judge.specs.Judge.{stop-of, are-classes, refusals, judgement, judged}
 
 -- the stop of 01: after how many units
 abbrev pub at : Stop → ℕ
@@ -31,11 +33,18 @@ rule-of way plan h = answer way (stages plan) (counts h)
 abbrev pub Refused-rightly : List ℕ → List ℕ → Type 0
 Refused-rightly plan list = (n : ℕ) → (judged plan list ≡ Refused n) ↔ First (refusals plan list) n
 
+-- granted exactly when the plan is admitted and each class is one that a unit may have; and then it is this judgement
+abbrev pub Granted-rightly : List ℕ → List ℕ → Type 0
+Granted-rightly plan list = (j : Judgement) →
+    (judged plan list ≡ Stopped-list j) ↔ ((admitted plan ≡ true) × (are-classes list ≡ true) × (j ≡ judgement plan list))
+
 -- of every admitted plan and every list
 pub record Stop-laws (plan list : List ℕ) : Type 0 where
   -- a way stops at the least number of units at which it does not go on, with its answer there; 0 and GoOn if it is not reached
   pub stops : (way : Way) (y : ℕ) (v : Answer) → Stops (rule-of way plan) list y v ↔ ((at (stop-of way plan list) ≡ y) × (stop-of way plan list .answer ≡ v) × (v ≢ GoOn))
   pub not-reached : (way : Way) → stop-of way plan list .answer ≡ GoOn → at (stop-of way plan list) ≡ 0
+  -- no way stops after S units
+  pub within : (way : Way) → at (stop-of way plan list) ≤ total (stages plan)
   -- classes past a stop have no say in it
   pub no-say : (way : Way) (other : List ℕ) → stop-of way plan list .answer ≢ GoOn → at (stop-of way plan list) ≤ length other
       → take (at (stop-of way plan list)) other ≡ take (at (stop-of way plan list)) list → stop-of way plan other ≡ stop-of way plan list
