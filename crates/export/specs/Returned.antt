@@ -3,6 +3,9 @@ use Prim.Native.Nat.{ℕ}
 use mathlib.Core.List.{List, [], _∷_}
 use lib.Ieee.{Float}
 use Rattle.sheetmodel.specs.Reply.{Reply, granted, refused}
+use Rattle.judge.specs.declared.list.Judged.{Judged}
+use Rattle.judge.specs.declared.list.Judged.the-variants as judged
+use Rattle.judge.specs.Judge.{numbers}
 use Rattle.chance.specs.declared.answers.Bounded.{Bounded}
 use Rattle.chance.specs.declared.answers.Bounded.the-variants as bounded
 use Rattle.chance.specs.declared.answers.ChartAnswer.{ChartAnswer}
@@ -17,6 +20,11 @@ number (refused n) = n
 abbrev pub left : Reply → List ℕ → List ℕ
 left (granted values) out = values
 left (refused n) out = out
+
+-- stop and state of each way, and the event
+abbrev pub judge-reply : Judged → Reply
+judge-reply (judged.Stops j) = granted (numbers (judged.Stops j))
+judge-reply (judged.Refused n) = refused n
 
 -- low and high
 abbrev pub bounds-reply : Bounded → Reply

@@ -2,10 +2,12 @@
 // granted, else the number of document 01's table "Refused". A refusal leaves `out` alone. A slice passes as
 // a pointer and a length, and an array as a pointer.
 mod chances;
+mod lists;
 mod sheet_calls;
 
 pub use chances::haq_chance;
 pub use chances::haq_chart;
+pub use lists::haq_judge;
 pub use sheet_calls::haq_close;
 pub use sheet_calls::haq_estimate;
 pub use sheet_calls::haq_fresh;
