@@ -3,9 +3,12 @@
 use Prim.Native.Nat.{ℕ}
 use mathlib.Core.Path.{_≡_, refl, ap}
 use mathlib.Core.Logic.{inl, inr}
-use mathlib.Core.Bool.{Bool, true, false, cond}
+use mathlib.Core.Bool.{Bool, true, false, cond, and-eq-true-iff}
 use mathlib.Core.List.{List, [], _∷_}
-use Rattle.plan.specs.Refusal.{Refusal, first-refusal, First, Refused-exactly}
+use lib.Dec.{leb}
+use native.Mathlib.Omega.{arith}
+use borrow.Author.Tests.{leb-true}
+use Rattle.plan.specs.Refusal.{Refusal, first-refusal, First, Refused-exactly, from-one, Never-zero}
 
 module _ {A : Type 0} (refuse : ℕ → A) (granted : A) (apart : (m n : ℕ) → refuse m ≡ refuse n → m ≡ n) (not : (n : ℕ) → granted ≡ refuse n → ⊥) (n : ℕ) where
   to : (rows : List Refusal) → first-refusal refuse rows granted ≡ refuse n → First rows n
@@ -23,3 +26,7 @@ module _ {A : Type 0} (refuse : ℕ → A) (granted : A) (apart : (m n : ℕ) �
 
 pub refused-exactly : Refused-exactly
 refused-exactly A refuse rows granted apart not n = (to refuse granted apart not n rows, from refuse granted apart not n rows)
+
+pub never-zero : Never-zero
+never-zero (r ∷ rest) e (inl f) = omega (arith, f .1, leb-true 1 (r .number) (and-eq-true-iff (leb 1 (r .number)) (from-one rest) .0 e .0))
+never-zero (r ∷ rest) e (inr f) = never-zero rest (and-eq-true-iff (leb 1 (r .number)) (from-one rest) .0 e .1) (f .1)

@@ -1,8 +1,9 @@
--- Demand 1, of the calls on a sheet: refused with n exactly when n is the first row that applies, and then no word changes.
+-- Demand 1, of the calls on a sheet: refused with n exactly when n is the first row that applies, and then no word changes. No
+-- refusal has the number 0.
 -- A statement alone; proofs/Demand1.antt proves it.
 use Prim.Native.Nat.{ℕ}
 use mathlib.Core.Path.{_≡_}
-use mathlib.Core.Logic.{_↔_}
+use mathlib.Core.Logic.{_↔_, _≢_}
 use mathlib.Core.List.{List}
 use Rattle.plan.specs.Refusal.{Refusal, First}
 use Rattle.sheetmodel.specs.declared.reply.Done.the-variants as done
@@ -15,6 +16,7 @@ use Rattle.sheetmodel.specs.Estimate.{estimate-rows, estimate}
 pub record Refused-by {R : Type 0} (refused : ℕ → R) (rows : List Refusal) (w : List ℕ) (o : Outcome R) : Type 0 where
   pub exactly : (n : ℕ) → (o .reply ≡ refused n) ↔ First rows n
   pub unchanged : (n : ℕ) → o .reply ≡ refused n → o .words ≡ w
+  pub never-zero : o .reply ≢ refused 0
 
 pub record Demand-1 (w : List ℕ) : Type 0 where
   pub fresh : (p : List ℕ) → Refused-by done.Refused (fresh-rows p w) w (fresh p w)
