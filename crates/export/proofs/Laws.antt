@@ -1,0 +1,73 @@
+-- The number 0 is returned exactly when the call is granted. Assumes nothing.
+use mathlib.Core.Path.{_≡_, refl, ap}
+use mathlib.Core.Logic.{_↔_, _≢_}
+use Rattle.plan.proofs.Refusals.{never-zero}
+use Rattle.sheetmodel.specs.declared.reply.Done.{Done}
+use Rattle.sheetmodel.specs.declared.reply.Done.the-variants as done
+use Rattle.sheetmodel.specs.declared.reply.Looked.{Looked}
+use Rattle.sheetmodel.specs.declared.reply.Looked.the-variants as looked
+use Rattle.sheetmodel.specs.declared.reply.Tallied.{Tallied}
+use Rattle.sheetmodel.specs.declared.reply.Tallied.the-variants as tallied
+use Rattle.sheetmodel.specs.declared.reply.Estimated.{Estimated}
+use Rattle.sheetmodel.specs.declared.reply.Estimated.the-variants as estimated
+use Rattle.sheetmodel.specs.Reply.{done-reply, look-reply, tally-reply, estimate-reply}
+use Rattle.sheetmodel.proofs.Demand1.{demand-1}
+use Rattle.judge.specs.declared.list.Judged.{Judged}
+use Rattle.judge.specs.declared.list.Judged.the-variants as judged
+use Rattle.judge.specs.Judge as judge
+use Rattle.judge.proofs.Laws.{refused-rightly}
+use Rattle.chance.specs.declared.answers.Bounded.{Bounded}
+use Rattle.chance.specs.declared.answers.Bounded.the-variants as bounded
+use Rattle.chance.specs.declared.answers.ChartAnswer.{ChartAnswer}
+use Rattle.chance.specs.declared.answers.ChartAnswer.the-variants as chart
+use Rattle.chance.specs.Reply as chance
+use Rattle.chance.proofs.Promise.{refusal-law}
+use Rattle.export.specs.Returned.{judge-reply, bounds-reply, chart-number}
+use Rattle.export.specs.Laws.{Chart-granted, Zero-exactly, Zero-law}
+
+-- ---- an answer that is no refusal with the number 0
+
+of-done : (d : Done) → d ≢ done.Refused 0 → Zero-exactly (done-reply d)
+of-done done.Ok not = (λ e. tt, λ g. refl)
+of-done (done.Refused n) not = (λ e. not (ap done.Refused e), λ g. absurd g)
+
+of-looked : (l : Looked) → l ≢ looked.Refused 0 → Zero-exactly (look-reply l)
+of-looked (looked.Shown s) not = (λ e. tt, λ g. refl)
+of-looked (looked.Refused n) not = (λ e. not (ap looked.Refused e), λ g. absurd g)
+
+of-tallied : (t : Tallied) → t ≢ tallied.Refused 0 → Zero-exactly (tally-reply t)
+of-tallied (tallied.Totals t) not = (λ e. tt, λ g. refl)
+of-tallied (tallied.Refused n) not = (λ e. not (ap tallied.Refused e), λ g. absurd g)
+
+of-estimated : (t : Estimated) → t ≢ estimated.Refused 0 → Zero-exactly (estimate-reply t)
+of-estimated (estimated.Estimate t) not = (λ e. tt, λ g. refl)
+of-estimated (estimated.Refused n) not = (λ e. not (ap estimated.Refused e), λ g. absurd g)
+
+of-judged : (j : Judged) → j ≢ judged.Refused 0 → Zero-exactly (judge-reply j)
+of-judged (judged.Stops j) not = (λ e. tt, λ g. refl)
+of-judged (judged.Refused n) not = (λ e. not (ap judged.Refused e), λ g. absurd g)
+
+of-bounded : (b : Bounded) → b ≢ bounded.Refused 0 → Zero-exactly (bounds-reply b)
+of-bounded (bounded.Pair b) not = (λ e. tt, λ g. refl)
+of-bounded (bounded.Refused n) not = (λ e. not (ap bounded.Refused e), λ g. absurd g)
+
+of-chart : (a : ChartAnswer) → a ≢ chart.Refused 0 → (chart-number a ≡ 0) ↔ Chart-granted a
+of-chart (chart.Pair c) not = (λ e. tt, λ g. refl)
+of-chart (chart.Refused n) not = (λ e. not (ap chart.Refused e), λ g. absurd g)
+
+-- ---- the calls
+
+pub zero-law : Zero-law
+zero-law = record {
+  fresh = λ p w. of-done _ (demand-1 w .fresh p .never-zero);
+  opening = λ n w. of-done _ (demand-1 w .opening n .never-zero);
+  inspecting = λ n c w. of-done _ (demand-1 w .inspecting n c .never-zero);
+  striking = λ n w. of-done _ (demand-1 w .striking n .never-zero);
+  closing = λ n w. of-done _ (demand-1 w .closing n .never-zero);
+  looking = λ n w. of-looked _ (demand-1 w .looking n .never-zero);
+  tallying = λ w. of-tallied _ (demand-1 w .tallying .never-zero);
+  estimating = λ n w. of-estimated _ (demand-1 w .estimating n .never-zero);
+  judging = λ p list. of-judged (judge.judged p list) (λ e. never-zero (judge.refusals p list) refl (refused-rightly p list 0 .0 e));
+  chance = λ p w n. of-bounded (chance.chance-reply p w n) (λ e. never-zero (chance.refusals p w n) refl (refusal-law p w n 0 .0 .0 e));
+  charting = λ p w n. of-chart (chance.chart-reply p w n) (λ e. never-zero (chance.refusals p w n) refl (refusal-law p w n 0 .1 .0 e));
+}

@@ -1,0 +1,2 @@
+-- The law of the numbers returned.
+pub mod Laws

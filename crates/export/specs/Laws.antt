@@ -1,0 +1,40 @@
+-- The number 0 is returned exactly when the call is granted: no refusal has that number. A statement alone; proofs/Laws.antt
+-- proves it.
+use Prim.Native.Nat.{ℕ}
+use mathlib.Core.Path.{_≡_}
+use mathlib.Core.Logic.{_↔_}
+use mathlib.Core.List.{List}
+use Rattle.sheetmodel.specs.Reply.{Reply, granted, refused, done-reply, look-reply, tally-reply, estimate-reply}
+use Rattle.sheetmodel.specs.Calls.{fresh, open-lot, inspect, strike, close, look, tally}
+use Rattle.sheetmodel.specs.Estimate.{estimate}
+use Rattle.judge.specs.Judge.{judged}
+use Rattle.chance.specs.declared.mean.Weights.{Weights}
+use Rattle.chance.specs.declared.answers.ChartAnswer.{ChartAnswer}
+use Rattle.chance.specs.declared.answers.ChartAnswer.the-variants as chart
+use Rattle.chance.specs.Reply.{chance-reply, chart-reply}
+use Rattle.export.specs.Returned.{number, judge-reply, bounds-reply, chart-number}
+
+abbrev pub Granted : Reply → Type 0
+Granted (granted values) = Unit {0}
+Granted (refused n) = ⊥
+
+abbrev pub Chart-granted : ChartAnswer → Type 0
+Chart-granted (chart.Pair c) = Unit {0}
+Chart-granted (chart.Refused n) = ⊥
+
+abbrev pub Zero-exactly : Reply → Type 0
+Zero-exactly r = (number r ≡ 0) ↔ Granted r
+
+-- of every call, on any words
+pub record Zero-law : Type 0 where
+  pub fresh : (p w : List ℕ) → Zero-exactly (done-reply (fresh p w .reply))
+  pub opening : (n : ℕ) (w : List ℕ) → Zero-exactly (done-reply (open-lot n w .reply))
+  pub inspecting : (n c : ℕ) (w : List ℕ) → Zero-exactly (done-reply (inspect n c w .reply))
+  pub striking : (n : ℕ) (w : List ℕ) → Zero-exactly (done-reply (strike n w .reply))
+  pub closing : (n : ℕ) (w : List ℕ) → Zero-exactly (done-reply (close n w .reply))
+  pub looking : (n : ℕ) (w : List ℕ) → Zero-exactly (look-reply (look n w .reply))
+  pub tallying : (w : List ℕ) → Zero-exactly (tally-reply (tally w .reply))
+  pub estimating : (n : ℕ) (w : List ℕ) → Zero-exactly (estimate-reply (estimate n w .reply))
+  pub judging : (p list : List ℕ) → Zero-exactly (judge-reply (judged p list))
+  pub chance : (p : List ℕ) (w : Weights) (n : ℕ) → Zero-exactly (bounds-reply (chance-reply p w n))
+  pub charting : (p : List ℕ) (w : Weights) (n : ℕ) → (chart-number (chart-reply p w n) ≡ 0) ↔ Chart-granted (chart-reply p w n)
