@@ -1,0 +1,104 @@
+/*
+ * Curtailed inspection of coded lots: the functions of libexport.a, which
+ * `rt staticlib export` proves and makes.
+ *
+ * Each function returns 0 if the call is granted, else the number of its
+ * refusal; where several apply, the lowest. A refused call writes nothing.
+ *
+ * A pointer is followed by the number of its elements, which may be any number;
+ * an array of an out parameter has the length in brackets. A pointer is aligned
+ * and not null, also where the number is 0, and what a call writes to overlaps
+ * nothing else that it takes. Nothing else is required of the caller: any words
+ * on a sheet, in a plan or in a list get an answer.
+ */
+#ifndef HAQOTHWE_H
+#define HAQOTHWE_H
+
+#include <stddef.h>
+#include <stdint.h>
+
+#ifdef __cplusplus
+extern "C" {
+#endif
+
+/* The refusals. In quotes the word of the specification ("Refused"). */
+enum haq_refusal {
+    HAQ_GRANTED = 0,
+    HAQ_SHEET_SIZE = 1,      /* "sheet size": below 48 or above 65,536 words */
+    HAQ_PLAN = 2,            /* "plan": a plan given with the call is not admitted */
+    HAQ_CORRUPT = 3,         /* "torn": the words are no sheet */
+    HAQ_LOT_ZERO = 4,        /* "blank lot": open number 0 */
+    HAQ_OPEN_ALREADY = 5,    /* "open already": open a number on the sheet */
+    HAQ_NOT_OPEN = 6,        /* "not open": other call on an absent lot */
+    HAQ_CLASS = 7,           /* "class": a class above 2, anywhere in a list */
+    HAQ_DECIDED = 8,         /* "decided": inspect a decided lot */
+    HAQ_NONE_TO_STRIKE = 9,  /* "none to strike": no inspection */
+    HAQ_UNDECIDED = 10,      /* "undecided": close or estimate too early */
+    HAQ_FULL = 11,           /* "full": a record is needed, none free or unused */
+    HAQ_TALLY_FULL = 12,     /* "tally full": close at 4,000,000 closed lots */
+    HAQ_WEIGHTS = 13,        /* "proportions": weights add to 0 or above 1,000,000 */
+    HAQ_SCRATCH_SHORT = 14,  /* "bench short": chance's scratch too small */
+    HAQ_SEVERAL_STAGES = 15, /* "several stages": estimate with k > 1 */
+    HAQ_LINE = 16            /* "line": not a command; the program lots alone gives it */
+};
+
+/* States of a lot. */
+enum haq_state { HAQ_STATE_UNDECIDED = 0, HAQ_STATE_ACCEPTED = 1, HAQ_STATE_REJECTED = 2 };
+
+/* Words of a sheet: at least, and at most. */
+#define HAQ_SHEET_LEAST 48
+#define HAQ_SHEET_MOST 65536
+
+/* Words of scratch that are enough for every admitted plan. A plan needs twice
+   the product of its last r1 and its last r2, which are at most 60. */
+#define HAQ_SCRATCH_MOST 7200
+
+/* A plan has five words a stage: n, a1, r1, a2, r2; 1 to 7 stages. A class is
+   0 good, 1 marginal, 2 bad. */
+
+/* Makes an empty sheet for a plan: writes words 0 to 43. Refusals 1, 2. */
+uint32_t haq_fresh(uint32_t *sheet, size_t n, const uint32_t *plan, size_t plan_n);
+
+/* Adds a lot, numbered from 1. Refusals 1, 3, 4, 5, 11. */
+uint32_t haq_open(uint32_t *sheet, size_t n, uint32_t lot);
+
+/* Adds an inspected unit of a class to a lot. Refusals 1, 3, 6, 7, 8, 11. */
+uint32_t haq_inspect(uint32_t *sheet, size_t n, uint32_t lot, uint32_t class_);
+
+/* Takes a lot's newest inspection away. Refusals 1, 3, 6, 9. */
+uint32_t haq_strike(uint32_t *sheet, size_t n, uint32_t lot);
+
+/* Adds a decided lot to the totals and frees its records. Refusals 1, 3, 6, 10, 12. */
+uint32_t haq_close(uint32_t *sheet, size_t n, uint32_t lot);
+
+/* What a lot shows: state, units, good, marginal, bad. Refusals 1, 3, 6. */
+uint32_t haq_look(const uint32_t *sheet, size_t n, uint32_t lot, uint32_t out[5]);
+
+/* Totals of the closed lots: accepted lots, rejected lots, good, marginal, bad
+   units. Refusals 1, 3. */
+uint32_t haq_tally(const uint32_t *sheet, size_t n, uint32_t out[5]);
+
+/* The estimate of a decided lot: good, marginal, bad among the units before the
+   last, and the denominator, which is their number. Refusals 1, 3, 6, 10, 15. */
+uint32_t haq_estimate(const uint32_t *sheet, size_t n, uint32_t lot, uint64_t out[4]);
+
+/* Judges a list of classes four ways: stop (0 if not reached) and state of
+   uncurtailed, semi, full and earliest; last the event at full's stop (0 if it
+   is not reached or the plan has several stages). Refusals 2, 7. */
+uint32_t haq_judge(const uint32_t *plan, size_t plan_n, const uint8_t *list, size_t n, uint32_t out[9]);
+
+/* The chance of acceptance lies between low and high, in units of 2^-40, where
+   classes 0, 1, 2 have weights w0, w1, w2. The scratch words that the plan needs
+   are written to; those beyond are not. Refusals 2, 13, 14. */
+uint32_t haq_chance(const uint32_t *plan, size_t plan_n, uint32_t w0, uint32_t w1, uint32_t w2,
+                    uint64_t *scratch, size_t n, uint64_t out[2]);
+
+/* As haq_chance, low and high divided by 2^40 exactly. */
+uint32_t haq_chart(const uint32_t *plan, size_t plan_n, uint32_t w0, uint32_t w1, uint32_t w2,
+                   uint64_t *scratch, size_t n, double out[2]);
+
+#ifdef __cplusplus
+}
+#endif
+
+#endif
