@@ -1,0 +1,65 @@
+"""One lot from opening to closing, then a list and a chance. Its output is bindings/expected."""
+
+from haqothwe import Refused, Sheet, chance, chart, judge
+
+PLAN = [5, 2, 3, 1, 2]
+STATES = ["undecided", "accepted", "rejected"]
+
+
+def done(call, function, *rest):
+    try:
+        function(*rest)
+        print(f"{call}: ok")
+    except Refused as refusal:
+        print(f"{call}: refused {refusal.number}")
+
+
+def show_lot(sheet):
+    it = sheet.look(7)
+    print(f"look 7: {STATES[it.state]} after {it.units} units, "
+          f"{it.good} good, {it.marginal} marginal, {it.bad} bad")
+    done("inspect 7 0", sheet.inspect, 7, 0)
+    it = sheet.estimate(7)
+    print(f"estimate 7: {it.good}, {it.marginal}, {it.bad} over {it.denominator}")
+
+
+def keep_sheet(sheet):
+    done("fresh without a plan", sheet.fresh, [])
+    done("fresh", sheet.fresh, PLAN)
+    done("open 7", sheet.open, 7)
+    done("inspect 7 1", sheet.inspect, 7, 1)
+    done("inspect 7 0", sheet.inspect, 7, 0)
+    done("strike 7", sheet.strike, 7)
+    done("inspect 7 2", sheet.inspect, 7, 2)
+    done("inspect 7 2", sheet.inspect, 7, 2)
+    show_lot(sheet)
+    done("close 7", sheet.close, 7)
+    it = sheet.tally()
+    print(f"tally: {it.accepted} accepted, {it.rejected} rejected; "
+          f"{it.good} good, {it.marginal} marginal, {it.bad} bad")
+
+
+def judged(classes):
+    try:
+        it = judge(PLAN, classes)
+    except Refused as refusal:
+        print(f"judge: refused {refusal.number}")
+        return
+    ways = zip(["uncurtailed", "semi", "full", "earliest"], it)
+    stops = "".join(f" {way} {stop.units} {STATES[stop.state]}," for way, stop in ways)
+    print(f"judge {len(classes)} classes:{stops} event {it.event}")
+
+
+def main():
+    keep_sheet(Sheet(64))
+    judged([0, 0, 0, 1, 2])
+    judged([])
+    judged([0, 0, 0, 1, 2, 3])
+    low, high = chance(PLAN, [90, 7, 3])
+    print(f"chance 90 7 3: {low} to {high}")
+    low, high = chart(PLAN, [90, 7, 3])
+    print(f"chart 90 7 3: {low:.15f} to {high:.15f}")
+    done("chance 0 0 0", chance, PLAN, [0, 0, 0])
+
+
+main()

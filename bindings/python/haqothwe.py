@@ -1,0 +1,144 @@
+"""Calls of the library (include/haqothwe.h) by ctypes.
+
+bin/shared-object makes the shared object. HAQOTHWE_LIBRARY may name another.
+"""
+
+import ctypes
+import os
+from collections import namedtuple
+from pathlib import Path
+
+UNDECIDED, ACCEPTED, REJECTED = 0, 1, 2
+
+# Words of scratch that are enough for every admitted plan.
+SCRATCH_MOST = 7200
+
+_DEFAULT = Path(__file__).resolve().parents[2] / "target" / "libhaqothwe.so"
+_library = ctypes.CDLL(os.environ.get("HAQOTHWE_LIBRARY", str(_DEFAULT)))
+
+_u8, _u32, _u64 = ctypes.c_uint8, ctypes.c_uint32, ctypes.c_uint64
+_f64, _size = ctypes.c_double, ctypes.c_size_t
+
+
+class Refused(Exception):
+    """A refused call; number is that of the refusal."""
+
+    def __init__(self, number):
+        super().__init__(f"refused {number}")
+        self.number = number
+
+
+Look = namedtuple("Look", "state units good marginal bad")
+Tally = namedtuple("Tally", "accepted rejected good marginal bad")
+Estimate = namedtuple("Estimate", "good marginal bad denominator")
+Judgement = namedtuple("Judgement", "uncurtailed semi full earliest event")
+
+# Where a way stops on a list; 0 units where it does not.
+Stop = namedtuple("Stop", "units state")
+
+
+def _function(name, *types):
+    function = getattr(_library, name)
+    function.argtypes = types
+    function.restype = _u32
+    return function
+
+
+_sheet = (ctypes.POINTER(_u32), _size)
+_list = (ctypes.POINTER(_u8), _size)
+_bounds = _sheet + (_u32, _u32, _u32, ctypes.POINTER(_u64), _size)
+_fresh = _function("haq_fresh", *_sheet, *_sheet)
+_open = _function("haq_open", *_sheet, _u32)
+_inspect = _function("haq_inspect", *_sheet, _u32, _u32)
+_strike = _function("haq_strike", *_sheet, _u32)
+_close = _function("haq_close", *_sheet, _u32)
+_look = _function("haq_look", *_sheet, _u32, ctypes.POINTER(_u32))
+_tally = _function("haq_tally", *_sheet, ctypes.POINTER(_u32))
+_estimate = _function("haq_estimate", *_sheet, _u32, ctypes.POINTER(_u64))
+_judge = _function("haq_judge", *_sheet, *_list, ctypes.POINTER(_u32))
+_chance = _function("haq_chance", *_bounds, ctypes.POINTER(_u64))
+_chart = _function("haq_chart", *_bounds, ctypes.POINTER(_f64))
+
+
+def _word(number):
+    """The number, because ctypes would take it modulo 2^32 without a word."""
+    if not 0 <= number < 2**32:
+        raise OverflowError(f"not a 32-bit word: {number}")
+    return number
+
+
+def _words(numbers):
+    return (_u32 * len(numbers))(*map(_word, numbers))
+
+
+def _granted(number):
+    if number:
+        raise Refused(number)
+
+
+class Sheet:
+    """A sheet of so many words, all 0. The words may be read and written by index."""
+
+    def __init__(self, length):
+        self.words = (_u32 * length)()
+
+    def _call(self, function, *rest):
+        _granted(function(self.words, len(self.words), *rest))
+
+    def fresh(self, plan):
+        self._call(_fresh, _words(plan), len(plan))
+
+    def open(self, lot):
+        self._call(_open, _word(lot))
+
+    def inspect(self, lot, class_):
+        self._call(_inspect, _word(lot), _word(class_))
+
+    def strike(self, lot):
+        self._call(_strike, _word(lot))
+
+    def close(self, lot):
+        self._call(_close, _word(lot))
+
+    def look(self, lot):
+        out = (_u32 * 5)()
+        self._call(_look, _word(lot), out)
+        return Look(*out)
+
+    def tally(self):
+        out = (_u32 * 5)()
+        self._call(_tally, out)
+        return Tally(*out)
+
+    def estimate(self, lot):
+        out = (_u64 * 4)()
+        self._call(_estimate, _word(lot), out)
+        return Estimate(*out)
+
+
+def judge(plan, classes):
+    """classes: bytes, or a sequence of numbers up to 255."""
+    classes = bytes(classes)
+    out = (_u32 * 9)()
+    listed = (_u8 * len(classes)).from_buffer_copy(classes)
+    _granted(_judge(_words(plan), len(plan), listed, len(classes), out))
+    stops = [Stop(*out[i:i + 2]) for i in (0, 2, 4, 6)]
+    return Judgement(*stops, out[8])
+
+
+def _pair(function, kind, plan, weights, scratch):
+    out = (kind * 2)()
+    words = (_u64 * scratch)()
+    w0, w1, w2 = map(_word, weights)
+    _granted(function(_words(plan), len(plan), w0, w1, w2, words, scratch, out))
+    return tuple(out)
+
+
+def chance(plan, weights, scratch=SCRATCH_MOST):
+    """Low and high in units of 2^-40."""
+    return _pair(_chance, _u64, plan, weights, scratch)
+
+
+def chart(plan, weights, scratch=SCRATCH_MOST):
+    """Low and high as floats."""
+    return _pair(_chart, _f64, plan, weights, scratch)

@@ -1,0 +1,87 @@
+//! One lot from opening to closing, then a list and a chance. Its output is
+//! bindings/expected.
+
+mod haqothwe;
+
+use haqothwe::{chance, chart, judge, Reply, Sheet, Stop, SCRATCH_MOST};
+use haqothwe::{ACCEPTED, REJECTED, UNDECIDED};
+
+const PLAN: &[u32] = &[5, 2, 3, 1, 2];
+
+fn word(state: u32) -> &'static str {
+    match state {
+        UNDECIDED => "undecided",
+        ACCEPTED => "accepted",
+        REJECTED => "rejected",
+        _ => "no state",
+    }
+}
+
+fn done<T>(call: &str, reply: Reply<T>) {
+    match reply {
+        Ok(_) => println!("{call}: ok"),
+        Err(refusal) => println!("{call}: refused {}", refusal.0),
+    }
+}
+
+fn show_lot(sheet: &mut Sheet) -> Reply<()> {
+    let it = sheet.look(7)?;
+    print!("look 7: {} after {} units, ", word(it.state), it.units);
+    println!("{} good, {} marginal, {} bad", it.good, it.marginal, it.bad);
+    done("inspect 7 0", sheet.inspect(7, 0));
+    let it = sheet.estimate(7)?;
+    print!("estimate 7: {}, {}, {} ", it.good, it.marginal, it.bad);
+    println!("over {}", it.denominator);
+    Ok(())
+}
+
+fn keep_sheet(sheet: &mut Sheet) -> Reply<()> {
+    done("fresh without a plan", sheet.fresh(&[]));
+    done("fresh", sheet.fresh(PLAN));
+    done("open 7", sheet.open(7));
+    done("inspect 7 1", sheet.inspect(7, 1));
+    done("inspect 7 0", sheet.inspect(7, 0));
+    done("strike 7", sheet.strike(7));
+    done("inspect 7 2", sheet.inspect(7, 2));
+    done("inspect 7 2", sheet.inspect(7, 2));
+    show_lot(sheet)?;
+    done("close 7", sheet.close(7));
+    let it = sheet.tally()?;
+    print!(
+        "tally: {} accepted, {} rejected; ",
+        it.accepted, it.rejected
+    );
+    println!("{} good, {} marginal, {} bad", it.good, it.marginal, it.bad);
+    Ok(())
+}
+
+fn judged(list: &[u8]) {
+    let it = match judge(PLAN, list) {
+        Ok(it) => it,
+        refused => return done("judge", refused),
+    };
+    let text = |stop: Stop| format!("{} {}", stop.units, word(stop.state));
+    print!("judge {} classes: ", list.len());
+    print!("uncurtailed {}, ", text(it.uncurtailed));
+    print!("semi {}, full {}, ", text(it.semi), text(it.full));
+    println!("earliest {}, event {}", text(it.earliest), it.event);
+}
+
+fn chances() -> Reply<()> {
+    let scratch = &mut [0; SCRATCH_MOST];
+    let [low, high] = chance(PLAN, [90, 7, 3], scratch)?;
+    println!("chance 90 7 3: {low} to {high}");
+    let [low, high] = chart(PLAN, [90, 7, 3], scratch)?;
+    println!("chart 90 7 3: {low:.15} to {high:.15}");
+    done("chance 0 0 0", chance(PLAN, [0, 0, 0], scratch));
+    Ok(())
+}
+
+fn main() {
+    keep_sheet(&mut Sheet(&mut [0; 64])).expect("the calls are granted");
+    let list = [0, 0, 0, 1, 2, 3];
+    judged(&list[..5]);
+    judged(&[]);
+    judged(&list);
+    chances().expect("the calls are granted");
+}

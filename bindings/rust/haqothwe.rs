@@ -1,0 +1,143 @@
+//! Safe calls of the library; include/haqothwe.h says what each does. Link with
+//! `-l static=export`.
+
+/// The number of a refusal.
+#[derive(Clone, Copy, Debug, PartialEq, Eq)]
+pub struct Refusal(pub u32);
+
+pub type Reply<T> = Result<T, Refusal>;
+
+/// Words of scratch that are enough for every admitted plan.
+pub const SCRATCH_MOST: usize = 7_200;
+
+pub const UNDECIDED: u32 = 0;
+pub const ACCEPTED: u32 = 1;
+pub const REJECTED: u32 = 2;
+
+// The results have the layout of the words that the library writes.
+
+#[repr(C)]
+#[derive(Clone, Copy, Debug, Default, PartialEq, Eq)]
+pub struct Look {
+    pub state: u32,
+    pub units: u32,
+    pub good: u32,
+    pub marginal: u32,
+    pub bad: u32,
+}
+
+#[repr(C)]
+#[derive(Clone, Copy, Debug, Default, PartialEq, Eq)]
+pub struct Tally {
+    pub accepted: u32,
+    pub rejected: u32,
+    pub good: u32,
+    pub marginal: u32,
+    pub bad: u32,
+}
+
+#[repr(C)]
+#[derive(Clone, Copy, Debug, Default, PartialEq, Eq)]
+pub struct Estimate {
+    pub good: u64,
+    pub marginal: u64,
+    pub bad: u64,
+    pub denominator: u64,
+}
+
+/// Where a way stops on a list; 0 units where it does not.
+#[repr(C)]
+#[derive(Clone, Copy, Debug, Default, PartialEq, Eq)]
+pub struct Stop {
+    pub units: u32,
+    pub state: u32,
+}
+
+#[repr(C)]
+#[derive(Clone, Copy, Debug, Default, PartialEq, Eq)]
+pub struct Judgement {
+    pub uncurtailed: Stop,
+    pub semi: Stop,
+    pub full: Stop,
+    pub earliest: Stop,
+    pub event: u32,
+}
+
+#[rustfmt::skip]
+extern "C" {
+    fn haq_fresh(sheet: *mut u32, n: usize, plan: *const u32, plan_n: usize) -> u32;
+    fn haq_open(sheet: *mut u32, n: usize, lot: u32) -> u32;
+    fn haq_inspect(sheet: *mut u32, n: usize, lot: u32, class: u32) -> u32;
+    fn haq_strike(sheet: *mut u32, n: usize, lot: u32) -> u32;
+    fn haq_close(sheet: *mut u32, n: usize, lot: u32) -> u32;
+    fn haq_look(sheet: *const u32, n: usize, lot: u32, out: &mut Look) -> u32;
+    fn haq_tally(sheet: *const u32, n: usize, out: &mut Tally) -> u32;
+    fn haq_estimate(sheet: *const u32, n: usize, lot: u32, out: &mut Estimate) -> u32;
+    fn haq_judge(plan: *const u32, plan_n: usize, list: *const u8, n: usize, out: &mut Judgement) -> u32;
+    fn haq_chance(plan: *const u32, plan_n: usize, w0: u32, w1: u32, w2: u32, scratch: *mut u64, n: usize, out: &mut [u64; 2]) -> u32;
+    fn haq_chart(plan: *const u32, plan_n: usize, w0: u32, w1: u32, w2: u32, scratch: *mut u64, n: usize, out: &mut [f64; 2]) -> u32;
+}
+
+fn reply<T: Default>(call: impl FnOnce(&mut T) -> u32) -> Reply<T> {
+    let mut out = T::default();
+    match call(&mut out) {
+        0 => Ok(out),
+        number => Err(Refusal(number)),
+    }
+}
+
+/// A sheet on borrowed words. The calls require valid memory of the given length
+/// and a pointer that is not null, which every slice is, one of length 0 too.
+pub struct Sheet<'a>(pub &'a mut [u32]);
+
+impl Sheet<'_> {
+    pub fn fresh(&mut self, plan: &[u32]) -> Reply<()> {
+        let (words, n) = (self.0.as_mut_ptr(), self.0.len());
+        reply(|_| unsafe { haq_fresh(words, n, plan.as_ptr(), plan.len()) })
+    }
+
+    pub fn open(&mut self, lot: u32) -> Reply<()> {
+        reply(|_| unsafe { haq_open(self.0.as_mut_ptr(), self.0.len(), lot) })
+    }
+
+    pub fn inspect(&mut self, lot: u32, class: u32) -> Reply<()> {
+        reply(|_| unsafe { haq_inspect(self.0.as_mut_ptr(), self.0.len(), lot, class) })
+    }
+
+    pub fn strike(&mut self, lot: u32) -> Reply<()> {
+        reply(|_| unsafe { haq_strike(self.0.as_mut_ptr(), self.0.len(), lot) })
+    }
+
+    pub fn close(&mut self, lot: u32) -> Reply<()> {
+        reply(|_| unsafe { haq_close(self.0.as_mut_ptr(), self.0.len(), lot) })
+    }
+
+    pub fn look(&self, lot: u32) -> Reply<Look> {
+        reply(|out| unsafe { haq_look(self.0.as_ptr(), self.0.len(), lot, out) })
+    }
+
+    pub fn tally(&self) -> Reply<Tally> {
+        reply(|out| unsafe { haq_tally(self.0.as_ptr(), self.0.len(), out) })
+    }
+
+    pub fn estimate(&self, lot: u32) -> Reply<Estimate> {
+        reply(|out| unsafe { haq_estimate(self.0.as_ptr(), self.0.len(), lot, out) })
+    }
+}
+
+pub fn judge(plan: &[u32], list: &[u8]) -> Reply<Judgement> {
+    let (words, k) = (plan.as_ptr(), plan.len());
+    reply(|out| unsafe { haq_judge(words, k, list.as_ptr(), list.len(), out) })
+}
+
+/// Low and high in units of 2^-40.
+pub fn chance(plan: &[u32], [w0, w1, w2]: [u32; 3], scratch: &mut [u64]) -> Reply<[u64; 2]> {
+    let (words, k, n) = (plan.as_ptr(), plan.len(), scratch.len());
+    reply(|out| unsafe { haq_chance(words, k, w0, w1, w2, scratch.as_mut_ptr(), n, out) })
+}
+
+/// Low and high as floats.
+pub fn chart(plan: &[u32], [w0, w1, w2]: [u32; 3], scratch: &mut [u64]) -> Reply<[f64; 2]> {
+    let (words, k, n) = (plan.as_ptr(), plan.len(), scratch.len());
+    reply(|out| unsafe { haq_chart(words, k, w0, w1, w2, scratch.as_mut_ptr(), n, out) })
+}
