@@ -1,0 +1,186 @@
+//! One call by the library and by the reference, compared; and how many of them.
+
+use crate::answers::{Answerer, Call, Reply};
+use crate::chance::{self, Weights};
+use crate::judge::Judgement;
+use crate::library::{self, Answer, Lent, SheetCall, PATTERN, PATTERN_64};
+use crate::plan::Plan;
+use crate::sheet::{Plans, Sheet};
+use std::collections::BTreeMap;
+
+/// An error is a difference.
+pub type Compared = Result<(), String>;
+
+pub struct Comparer {
+    /// The reference's sheet. The library gets a copy for each call.
+    pub sheet: Sheet,
+    answerer: Answerer,
+    counts: BTreeMap<(&'static str, u32), u64>,
+}
+
+impl Comparer {
+    pub fn new() -> Comparer {
+        Comparer {
+            sheet: empty(),
+            answerer: Answerer::new(),
+            counts: BTreeMap::new(),
+        }
+    }
+
+    /// Another sheet. The tables kept for earlier plans go, since they are large.
+    pub fn new_sheet(&mut self, words: Vec<u32>) {
+        self.sheet = Sheet { words, ..empty() };
+    }
+
+    pub fn on_sheet(&mut self, call: &SheetCall) -> Compared {
+        let before = self.sheet.words.clone();
+        let mut lent = Lent::new(&before, PATTERN);
+        let answer = library::on_sheet(call, &mut lent);
+        let reply = reference(&mut self.sheet, call);
+        let what = || format!("{call:?} on {}", text(&before));
+        self.same(name(call), &answer, reply, what)?;
+        if lent.run() != self.sheet.words || !lent.kept_beyond(lent.run().len()) {
+            return Err(format!("{}: the words differ afterwards", what()));
+        }
+        Ok(())
+    }
+
+    pub fn judge(&mut self, plan: &[u32], list: &[u8]) -> Compared {
+        let reply = self.answerer.judged(list, plan);
+        let reply = reply.map(|judgement| judged(&judgement));
+        let answer = library::judge(plan, list);
+        let what = || format!("judge {plan:?} {}", text(list));
+        self.same("judge", &answer, reply, what)
+    }
+
+    /// Chance and chart, with a scratch of so many words.
+    pub fn chance(&mut self, plan: &[u32], weights: Weights, scratch: usize) -> Compared {
+        let bounds = self.answerer.bounds(&Call {
+            weights,
+            scratch: scratch as u32,
+            words: plan.to_vec(),
+        });
+        for (function, call) in [
+            (
+                "chance",
+                library::chance as fn(&[u32], Weights, &mut Lent<u64>) -> Answer,
+            ),
+            ("chart", library::chart),
+        ] {
+            let words: Vec<u64> = (0..scratch as u64).map(|i| PATTERN_64 ^ i).collect();
+            let mut lent = Lent::new(&words, PATTERN_64);
+            let answer = call(plan, weights, &mut lent);
+            let what = || format!("{function} {plan:?} {weights:?}, scratch {scratch}");
+            let values = |bounds| {
+                if function == "chart" {
+                    chance::chart(bounds)
+                } else {
+                    bounds
+                }
+            };
+            let reply = bounds.map(|bounds| values(bounds).to_vec());
+            self.same(function, &answer, reply, what)?;
+            let free = bounds.map_or(0, |_| needed(plan));
+            if !lent.kept_beyond(free) {
+                return Err(format!(
+                    "{}: scratch words beyond {free} were written",
+                    what()
+                ));
+            }
+        }
+        Ok(())
+    }
+
+    fn same(
+        &mut self,
+        function: &'static str,
+        answer: &Answer,
+        reply: Reply<Vec<u64>>,
+        what: impl Fn() -> String,
+    ) -> Compared {
+        let (number, out) = match reply {
+            Ok(values) => (0, values),
+            Err(number) => (number, vec![]),
+        };
+        *self.counts.entry((function, number)).or_default() += 1;
+        if answer.number == number && answer.out == out {
+            return Ok(());
+        }
+        let (ours, written) = (answer.number, &answer.out);
+        Err(format!(
+            "{}: {ours} {written:?} by the library, {number} {out:?} by the reference",
+            what()
+        ))
+    }
+
+    /// How many comparisons of each function and number were made.
+    pub fn print(&self) {
+        let mut by_function: BTreeMap<&str, (u64, String)> = BTreeMap::new();
+        for (&(function, number), count) in &self.counts {
+            let (all, line) = by_function.entry(function).or_default();
+            *all += count;
+            line.push_str(&match number {
+                0 => format!(", {count} granted"),
+                _ => format!(", {count} refused {number}"),
+            });
+        }
+        for (function, (all, line)) in by_function {
+            println!("{function}: {all} compared{line}");
+        }
+    }
+}
+
+fn empty() -> Sheet {
+    Sheet {
+        words: Vec::new(),
+        plans: Plans::default(),
+    }
+}
+
+/// Words of scratch that an admitted plan needs.
+pub fn needed(plan: &[u32]) -> usize {
+    Plan::admitted(plan).map_or(0, |plan| chance::needed(&plan) as usize)
+}
+
+fn judged(judgement: &Judgement) -> Vec<u64> {
+    let stops = judgement.stops.map(|stop| stop.unwrap_or((0, 0)));
+    let numbers = stops.map(|(units, state)| [units as u64, u64::from(state)]);
+    [numbers.as_flattened(), &[u64::from(judgement.event)]].concat()
+}
+
+fn reference(sheet: &mut Sheet, call: &SheetCall) -> Reply<Vec<u64>> {
+    let values = |words: Vec<u32>| words.into_iter().map(u64::from).collect();
+    let done = match *call {
+        SheetCall::Fresh(ref plan) => sheet.fresh(plan),
+        SheetCall::Open(lot) => sheet.open(lot),
+        SheetCall::Inspect(lot, class) => sheet.inspect(lot, class),
+        SheetCall::Strike(lot) => sheet.strike(lot),
+        SheetCall::Close(lot) => sheet.close(lot),
+        SheetCall::Look(lot) => return sheet.look(lot).map(values),
+        SheetCall::Tally => return sheet.tally().map(values),
+        SheetCall::Estimate(lot) => return sheet.estimate(lot).map(values),
+    };
+    done.map(|()| vec![])
+}
+
+fn name(call: &SheetCall) -> &'static str {
+    match call {
+        SheetCall::Fresh(_) => "fresh",
+        SheetCall::Open(_) => "open",
+        SheetCall::Inspect(..) => "inspect",
+        SheetCall::Strike(_) => "strike",
+        SheetCall::Close(_) => "close",
+        SheetCall::Look(_) => "look",
+        SheetCall::Tally => "tally",
+        SheetCall::Estimate(_) => "estimate",
+    }
+}
+
+/// The elements of a short run, the length of a long one.
+fn text<T: std::fmt::Debug>(run: &[T]) -> String {
+    if run.len() <= 400 {
+        format!("{run:?}")
+    } else {
+        format!("{} elements", run.len())
+    }
+}

@@ -1,0 +1,198 @@
+//! Plans, lists and weights: judge, chance, chart, and fresh with each plan.
+
+use crate::answers::Case;
+use crate::cases;
+use crate::compare::{needed, Compared, Comparer};
+use crate::draw;
+use crate::earliest::Table;
+use crate::edges::{self, A, B, LARGEST, ONE, SEVEN, THREE, TWO, WEIGHTS, WRAPS};
+use crate::library::{SheetCall, PATTERN};
+use crate::plan::Plan;
+use crate::random::Random;
+
+const SEED: u64 = 40_100_000;
+
+pub fn all(comparer: &mut Comparer) -> Compared {
+    let random = &mut Random::new(SEED);
+    stored_cases(comparer)?;
+    hand_written(comparer)?;
+    all_lengths(comparer, random)?;
+    drawn_plans(comparer, random)?;
+    long_lists(comparer, random)?;
+    weights_and_scratch(comparer, random)
+}
+
+/// The cases that crates/vectors answers.
+fn stored_cases(comparer: &mut Comparer) -> Compared {
+    for line in cases::all() {
+        match Case::parse(&line)? {
+            Case::Admission(words) => plan(comparer, &words)?,
+            Case::Judged(list, words) => comparer.judge(&words, &list)?,
+            Case::Chance(call) => {
+                comparer.chance(&call.words, call.weights, call.scratch as usize)?
+            }
+            // Each chart is compared with its chance, and most have a line of both.
+            Case::Chart(_) => {}
+        }
+    }
+    Ok(())
+}
+
+/// Every call that takes a plan, on few classes.
+fn plan(comparer: &mut Comparer, words: &[u32]) -> Compared {
+    comparer.judge(words, &[])?;
+    comparer.judge(words, &[0, 1, 2, 0, 0])?;
+    comparer.judge(words, &[0, 3])?;
+    for length in [47, 48, 51] {
+        comparer.new_sheet(vec![PATTERN; length]);
+        comparer.on_sheet(&SheetCall::Fresh(words.to_vec()))?;
+        comparer.on_sheet(&SheetCall::Tally)?;
+    }
+    if Plan::admitted(words).is_none() {
+        comparer.chance(words, [1, 1, 1], 7_200)?;
+        comparer.chance(words, [0, 0, 0], 0)?;
+    }
+    Ok(())
+}
+
+fn hand_written(comparer: &mut Comparer) -> Compared {
+    for edge in edges::edges() {
+        plan(comparer, &edge.kept())?;
+        plan(comparer, &edge.broken())?;
+    }
+    let wraps = WRAPS.iter().map(|words| words.to_vec());
+    edges::runs()
+        .into_iter()
+        .chain(wraps)
+        .try_for_each(|words| plan(comparer, &words))
+}
+
+/// Words at the limits of a rule or of 32 bits.
+const VALUES: &[u32] = &[
+    0,
+    1,
+    2,
+    59,
+    60,
+    61,
+    999,
+    1_000,
+    1_001,
+    65_536,
+    0x7FFF_FFFF,
+    0x8000_0000,
+    0xFFFF_FFFE,
+    u32::MAX,
+];
+
+/// Runs of 0 to 40 words: beginnings of an admitted plan, one value throughout,
+/// small words and any words.
+fn all_lengths(comparer: &mut Comparer, random: &mut Random) -> Compared {
+    for length in 0..=40 {
+        let long = [SEVEN, SEVEN].concat();
+        plan(comparer, &long[..length])?;
+        for &value in VALUES {
+            plan(comparer, &vec![value; length])?;
+        }
+        for most in [1, 2, 5, 20, u32::MAX] {
+            let words: Vec<u32> = (0..length).map(|_| random.between(0, most)).collect();
+            plan(comparer, &words)?;
+        }
+    }
+    Ok(())
+}
+
+/// Random admitted plans with lists of each kind, and each plan with one word
+/// replaced.
+fn drawn_plans(comparer: &mut Comparer, random: &mut Random) -> Compared {
+    for (plans, least, most) in [(700, 1, 12), (300, 13, 120), (60, 121, 1_000)] {
+        for round in 0..plans {
+            let units = random.between(least, most);
+            let words = draw::plan(random, 1 + round % 7, units);
+            lists(comparer, random, &words)?;
+            for _ in 0..6 {
+                let mut damaged = words.clone();
+                let index = random.index(words.len());
+                let own = words[index];
+                let near = [own.wrapping_add(1), own.wrapping_sub(1), own ^ 1];
+                let value = random.pick(VALUES);
+                damaged[index] = random.pick(&[near[0], near[1], near[2], value]);
+                comparer.judge(&damaged, &[0, 2, 1])?;
+            }
+        }
+    }
+    Ok(())
+}
+
+fn lists(comparer: &mut Comparer, random: &mut Random, words: &[u32]) -> Compared {
+    let plan = Plan::admitted(words).expect("the plan is drawn as an admitted one");
+    let table = Table::new(&plan);
+    let units = plan.units();
+    for _ in 0..3 {
+        let length = random.index(units + 4);
+        let until = random.index(units + 2);
+        let most = random.pick(&[units, units + 3, 2_000]);
+        for mut list in [
+            draw::mixed(random, &plan, length),
+            draw::near_the_numbers(random, &plan),
+            draw::held(random, &plan, &table, until, units),
+            draw::held(random, &plan, &table, units + 1, most),
+        ] {
+            list.truncate(random.pick(&[2_000, 2_000, 2_000, units - 1]));
+            comparer.judge(words, &list)?;
+            if !list.is_empty() && random.one_in(4) {
+                let place = random.index(list.len());
+                list[place] = random.pick(&[3, 4, 127, 128, 255]);
+                comparer.judge(words, &list)?;
+            }
+        }
+    }
+    Ok(())
+}
+
+/// Lists of 1,000 and more classes, with and without a class above 2.
+fn long_lists(comparer: &mut Comparer, random: &mut Random) -> Compared {
+    for words in [A, B, ONE, TWO, THREE, SEVEN, LARGEST[0], LARGEST[1]] {
+        let plan = Plan::admitted(words).expect("the hand-written plans are admitted");
+        let table = Table::new(&plan);
+        for length in [999, 1_000, 1_001, 1_002, 1_999, 2_000, 100_000] {
+            let list = draw::held(random, &plan, &table, plan.units(), length);
+            comparer.judge(words, &list)?;
+            for place in [0, 999, 1_000, random.index(length), length - 1] {
+                let mut other = list.clone();
+                if place < length {
+                    other[place] = random.pick(&[0, 1, 2, 3, 255]);
+                }
+                comparer.judge(words, &other)?;
+            }
+        }
+    }
+    Ok(())
+}
+
+/// Weights at their limits, and a scratch too small, exact and larger.
+fn weights_and_scratch(comparer: &mut Comparer, random: &mut Random) -> Compared {
+    let most = u32::MAX;
+    let more = [
+        [most, most, most],
+        [0, most, 1],
+        [500_000, 500_000, 0],
+        [500_000, 500_001, 0],
+    ];
+    for round in 0..170 {
+        let units = random.pick(&[1, 2, 5, 12, 40, 90]);
+        let words = draw::plan(random, 1 + round % 7, units);
+        let plan = Plan::admitted(&words).expect("the plan is drawn as an admitted one");
+        let exact = needed(&words);
+        for &weights in WEIGHTS.iter().chain(&more) {
+            let scratch =
+                random.pick(&[0, exact / 2, exact - 1, exact, exact, exact + 1, exact + 50]);
+            comparer.chance(&words, weights, scratch)?;
+        }
+        for scratch in [0, 1, exact - 1, exact, exact + 1, 7_200, 7_201] {
+            let weights = draw::weights(random, &plan);
+            comparer.chance(&words, weights, scratch)?;
+        }
+    }
+    Ok(())
+}
