@@ -3,9 +3,10 @@
 use crate::answers::{Answerer, Call, Reply};
 use crate::chance::{self, Weights};
 use crate::judge::Judgement;
-use crate::library::{self, Answer, Lent, SheetCall, PATTERN, PATTERN_64};
+use crate::library::{self, Answer, Lent, PATTERN, PATTERN_64};
 use crate::plan::Plan;
 use crate::sheet::{Plans, Sheet};
+use crate::sheet_call::SheetCall;
 use std::collections::BTreeMap;
 
 /// An error is a difference.
@@ -36,9 +37,9 @@ impl Comparer {
         let before = self.sheet.words.clone();
         let mut lent = Lent::new(&before, PATTERN);
         let answer = library::on_sheet(call, &mut lent);
-        let reply = reference(&mut self.sheet, call);
+        let reply = call.by_reference(&mut self.sheet);
         let what = || format!("{call:?} on {}", text(&before));
-        self.same(name(call), &answer, reply, what)?;
+        self.same(call.name(), &answer, reply, what)?;
         if lent.run() != self.sheet.words || !lent.kept_beyond(lent.run().len()) {
             return Err(format!("{}: the words differ afterwards", what()));
         }
@@ -146,34 +147,6 @@ fn judged(judgement: &Judgement) -> Vec<u64> {
     let stops = judgement.stops.map(|stop| stop.unwrap_or((0, 0)));
     let numbers = stops.map(|(units, state)| [units as u64, u64::from(state)]);
     [numbers.as_flattened(), &[u64::from(judgement.event)]].concat()
-}
-
-fn reference(sheet: &mut Sheet, call: &SheetCall) -> Reply<Vec<u64>> {
-    let values = |words: Vec<u32>| words.into_iter().map(u64::from).collect();
-    let done = match *call {
-        SheetCall::Fresh(ref plan) => sheet.fresh(plan),
-        SheetCall::Open(lot) => sheet.open(lot),
-        SheetCall::Inspect(lot, class) => sheet.inspect(lot, class),
-        SheetCall::Strike(lot) => sheet.strike(lot),
-        SheetCall::Close(lot) => sheet.close(lot),
-        SheetCall::Look(lot) => return sheet.look(lot).map(values),
-        SheetCall::Tally => return sheet.tally().map(values),
-        SheetCall::Estimate(lot) => return sheet.estimate(lot).map(values),
-    };
-    done.map(|()| vec![])
-}
-
-fn name(call: &SheetCall) -> &'static str {
-    match call {
-        SheetCall::Fresh(_) => "fresh",
-        SheetCall::Open(_) => "open",
-        SheetCall::Inspect(..) => "inspect",
-        SheetCall::Strike(_) => "strike",
-        SheetCall::Close(_) => "close",
-        SheetCall::Look(_) => "look",
-        SheetCall::Tally => "tally",
-        SheetCall::Estimate(_) => "estimate",
-    }
 }
 
 /// The elements of a short run, the length of a long one.

@@ -1,5 +1,7 @@
 //! The functions of libexport.a, called on lent runs that show each write.
 
+use crate::sheet_call::SheetCall;
+
 #[rustfmt::skip]
 extern "C" {
     fn haq_fresh(sheet: *mut u32, n: usize, plan: *const u32, plan_n: usize) -> u32;
@@ -81,18 +83,6 @@ fn with_long_words(length: usize, call: impl FnOnce(*mut u64) -> u32) -> Answer 
     let values = out.run().to_vec();
     let out = if out.kept() { vec![] } else { values };
     Answer { number, out }
-}
-
-#[derive(Clone, Debug)]
-pub enum SheetCall {
-    Fresh(Vec<u32>),
-    Open(u32),
-    Inspect(u32, u32),
-    Strike(u32),
-    Close(u32),
-    Look(u32),
-    Tally,
-    Estimate(u32),
 }
 
 pub fn on_sheet(call: &SheetCall, sheet: &mut Lent<u32>) -> Answer {

@@ -39,6 +39,7 @@ mod built;
 mod compare;
 mod library;
 mod plans;
+mod sheet_call;
 mod sheets;
 
 use std::process::ExitCode;

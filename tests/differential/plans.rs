@@ -6,9 +6,10 @@ use crate::compare::{needed, Compared, Comparer};
 use crate::draw;
 use crate::earliest::Table;
 use crate::edges::{self, A, B, LARGEST, ONE, SEVEN, THREE, TWO, WEIGHTS, WRAPS};
-use crate::library::{SheetCall, PATTERN};
+use crate::library::PATTERN;
 use crate::plan::Plan;
 use crate::random::Random;
+use crate::sheet_call::SheetCall;
 
 const SEED: u64 = 40_100_000;
 

@@ -4,9 +4,9 @@ use crate::built::{self, Fill};
 use crate::compare::{Compared, Comparer};
 use crate::draw;
 use crate::edges::{A, B, ONE, SEVEN, TWO};
-use crate::library::SheetCall;
 use crate::random::Random;
 use crate::sheet_answers::Run;
+use crate::sheet_call::SheetCall;
 use crate::sheet_cases::{self, random_call, SINGLE};
 
 const SEED: u64 = 65_537_047;

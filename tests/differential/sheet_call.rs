@@ -1,0 +1,46 @@
+//! A call on a sheet, and its answer by the reference.
+
+use crate::answers::Reply;
+use crate::sheet::Sheet;
+
+#[derive(Clone, Debug)]
+pub enum SheetCall {
+    Fresh(Vec<u32>),
+    Open(u32),
+    Inspect(u32, u32),
+    Strike(u32),
+    Close(u32),
+    Look(u32),
+    Tally,
+    Estimate(u32),
+}
+
+impl SheetCall {
+    pub fn name(&self) -> &'static str {
+        match self {
+            SheetCall::Fresh(_) => "fresh",
+            SheetCall::Open(_) => "open",
+            SheetCall::Inspect(..) => "inspect",
+            SheetCall::Strike(_) => "strike",
+            SheetCall::Close(_) => "close",
+            SheetCall::Look(_) => "look",
+            SheetCall::Tally => "tally",
+            SheetCall::Estimate(_) => "estimate",
+        }
+    }
+
+    pub fn by_reference(&self, sheet: &mut Sheet) -> Reply<Vec<u64>> {
+        let values = |words: Vec<u32>| words.into_iter().map(u64::from).collect();
+        let done = match *self {
+            SheetCall::Fresh(ref plan) => sheet.fresh(plan),
+            SheetCall::Open(lot) => sheet.open(lot),
+            SheetCall::Inspect(lot, class) => sheet.inspect(lot, class),
+            SheetCall::Strike(lot) => sheet.strike(lot),
+            SheetCall::Close(lot) => sheet.close(lot),
+            SheetCall::Look(lot) => return sheet.look(lot).map(values),
+            SheetCall::Tally => return sheet.tally().map(values),
+            SheetCall::Estimate(lot) => return sheet.estimate(lot).map(values),
+        };
+        done.map(|()| vec![])
+    }
+}
