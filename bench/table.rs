@@ -1,0 +1,39 @@
+//! The table, in Markdown.
+
+use crate::timing::Times;
+
+pub fn head() {
+    let cpu = std::fs::read_to_string("/proc/cpuinfo").unwrap_or_default();
+    let name = cpu.lines().find_map(|line| line.strip_prefix("model name"));
+    let name = name.map_or("unknown", |rest| rest.trim_start_matches([' ', '\t', ':']));
+    println!("Processor: {name}.");
+    println!();
+    println!(
+        "The shortest time of many calls, the three sides in turns, with warm caches. Sheets are copied back \
+         before a call, outside of the time; scratch and out arrays are not cleared before a call, but the \
+         calls may clear them. `plain` is bench/plain; `reference` is tests/reference, which is written for \
+         clarity and keeps the tables of a plan between calls."
+    );
+    println!();
+    println!("| What | ours | plain | ours / plain | reference | ours / reference |");
+    println!("|---|---|---|---|---|---|");
+}
+
+pub fn line(what: &str, [ours, plain, reference]: Times) {
+    println!(
+        "| {what} | {} | {} | {:.2} | {} | {:.2} |",
+        text(ours),
+        text(plain),
+        ours / plain,
+        text(reference),
+        ours / reference
+    );
+}
+
+fn text(nanoseconds: f64) -> String {
+    match nanoseconds {
+        n if n < 1e3 => format!("{n:.0} ns"),
+        n if n < 1e6 => format!("{:.1} µs", n / 1e3),
+        n => format!("{:.2} ms", n / 1e6),
+    }
+}
