@@ -9,10 +9,12 @@ pub fn head() {
     println!("Processor: {name}.");
     println!();
     println!(
-        "The shortest time of many calls, the three sides in turns, with warm caches. Sheets are copied back \
-         before a call, outside of the time; scratch and out arrays are not cleared before a call, but the \
-         calls may clear them. `plain` is bench/plain; `reference` is tests/reference, which is written for \
-         clarity and keeps the tables of a plan between calls."
+        "The shortest time of many calls, the three sides in turns, with warm caches. Before a call on a sheet its \
+         words are copied back, outside of the time. The scratch is not cleared before a chance; ours and plain \
+         clear the words that they need in the call. Out arrays, at most 9 words, are made 0 inside of the time. \
+         `plain` is bench/plain: plain Rust, the same checks, written to be fast. `reference` is tests/reference, \
+         written for clarity: it keeps the tables of a plan between calls, counts each prefix of a list anew, \
+         and finds a chance by recursion with 128-bit numbers."
     );
     println!();
     println!("| What | ours | plain | ours / plain | reference | ours / reference |");
