@@ -61,7 +61,7 @@ _chart = _function("haq_chart", *_bounds, ctypes.POINTER(_f64))
 
 
 def _word(number):
-    """The number, because ctypes would take it modulo 2^32 without a word."""
+    """The number itself; ctypes would take a larger one modulo 2^32 and raise nothing."""
     if not 0 <= number < 2**32:
         raise OverflowError(f"not a 32-bit word: {number}")
     return number

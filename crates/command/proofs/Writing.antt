@@ -157,9 +157,6 @@ module _ (out word numbers first : List ℕ) (after : ℕ) (last : List ℕ) (en
   both : length (word ++ spaced numbers) ≡ length word + length (spaced numbers)
   both = length-append word (spaced numbers)
 
-  pub first-length : length first ≡ length out
-  first-length = ap length e ∙ length-written out 0 word (omega arith)
-
   so-far : last ≡ written out 0 (word ++ spaced numbers)
   so-far =
       g ∙ ap (λ (w : List ℕ). written w after (spaced numbers)) e ∙ ap (λ (k : ℕ). written (written out 0 word) k (spaced numbers)) f
