@@ -21,5 +21,6 @@ mod Uncurtailed
 mod StageWays
 mod Compared
 mod OneStage
+mod UnitMore
 pub mod Promise
 pub mod Refusals

@@ -124,7 +124,7 @@ tests-decide true y z w f g e = let t : _≡_ {A = ℕ} 0 1 = cc in omega arith
 tests-decide false true z w f g e = let t : _≡_ {A = ℕ} 0 1 = cc in omega arith
 tests-decide false false z w f g e = let t : _≡_ {A = ℕ} 0 1 = cc (f refl, g refl) in omega arith
 
-decides-last : (s : Stage) (c : Counts) → s .accept1 + 1 ≡ s .reject1 → s .accept2 + 1 ≡ s .reject2 → at-end s c ≢ GoOn
+pub decides-last : (s : Stage) (c : Counts) → s .accept1 + 1 ≡ s .reject1 → s .accept2 + 1 ≡ s .reject2 → at-end s c ≢ GoOn
 decides-last s c e1 e2 =
     tests-decide (leb (s .reject2) (c .bad)) (leb (s .reject1) (nongood c)) (leb (c .bad) (s .accept2)) (leb (nongood c) (s .accept1))
     (λ e. le-leb (c .bad) (s .accept2) (omega (arith, leb-false (s .reject2) (c .bad) e)))

@@ -21,6 +21,7 @@ use Rattle.plan.proofs.StageEnds as ends
 use Rattle.plan.proofs.Uncurtailed.{uncurtailed-stop}
 use Rattle.plan.proofs.StageWays.{sound}
 use Rattle.plan.proofs.Compared.{staged-later, same-rejection}
+use Rattle.plan.proofs.UnitMore as unit-more
 use Rattle.plan.proofs.OneStage.{one-stage as one-stage-of, one-stage-words}
 
 pub shape : (w : List ℕ) → admitted w ≡ true → Shape w
@@ -52,6 +53,10 @@ promise w e =
       end-below-is = ends.end-below-is (stages w);
       no-better = laws.no-better (stages w);
       rejects = laws.rejects (stages w) l;
+      at-ends = unit-more.at-ends (stages w);
+      between-ends = unit-more.between-ends (stages w);
+      at-last = unit-more.at-last (stages w) l;
+      unit-more = unit-more.unit-more (stages w) l;
     }
 
 pub counting : Counting

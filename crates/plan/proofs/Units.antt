@@ -74,7 +74,7 @@ pub units-taken : (x : List ℕ) (y : ℕ) → y ≤ length x → units (counts 
 units-taken x y l = units-counts (take y x) ∙ length-take-le y x l
 
 -- n units of one class, one by one
-add-none : (x : ℕ) (c : Counts) → c ≡ add-units x 0 c
+pub add-none : (x : ℕ) (c : Counts) → c ≡ add-units x 0 c
 unfolding add-units
 add-none zero c = λ i. record { good = sym (add-zero (c .good)) i; marginal = c .marginal; bad = c .bad }
 add-none (suc zero) c = λ i. record { good = c .good; marginal = sym (add-zero (c .marginal)) i; bad = c .bad }
@@ -84,7 +84,7 @@ add-none (suc (suc (suc x))) c = λ i. record { good = c .good; marginal = sym (
 one-first : (m n : ℕ) → m + 1 + n ≡ m + suc n
 one-first m n = omega arith
 
-add-one-first : (x n : ℕ) (c : Counts) → add-units x n (add-units x 1 c) ≡ add-units x (suc n) c
+pub add-one-first : (x n : ℕ) (c : Counts) → add-units x n (add-units x 1 c) ≡ add-units x (suc n) c
 unfolding add-units
 add-one-first zero n c = λ i. record { good = one-first (c .good) n i; marginal = c .marginal; bad = c .bad }
 add-one-first (suc zero) n c = λ i. record { good = c .good; marginal = one-first (c .marginal) n i; bad = c .bad }

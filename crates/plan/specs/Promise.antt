@@ -118,6 +118,13 @@ pub record Promise (p : List Stage) : Type 0 where
   pub no-better : (c d : Counts) → Worse c d → rank (earliest p d) ≤ rank (earliest p c)
   -- as many nongood or bad units as the last rejection number are rejected
   pub rejects : (c : Counts) → units c ≤ total p → (last-reject1 p ≤ nongood c) ⊎ (last-reject2 p ≤ c .bad) → earliest p c ≡ Reject
+  -- an answer of the uncurtailed way is the earliest stop's
+  pub at-ends : (c : Counts) (v : Answer) → v ≢ GoOn → staged Uncurtailed p c ≡ v → earliest p c ≡ v
+  -- it goes on where no stage ends, and not at S units
+  pub between-ends : (c : Counts) → (End 0 p (units c) → ⊥) → staged Uncurtailed p c ≡ GoOn
+  pub at-last : (c : Counts) → units c ≡ total p → staged Uncurtailed p c ≢ GoOn
+  -- where it goes on, the earliest stop's answer is the same after one unit more, of any class
+  pub unit-more : (c : Counts) (x : ℕ) (v : Answer) → v ≢ GoOn → staged Uncurtailed p c ≡ GoOn → earliest p c ≡ v → earliest p (add-units x 1 c) ≡ v
 
 -- full's acceptance as 01 writes it: nonbad ≥ Si − a2 and good ≥ Si − a1
 abbrev pub Full-as-written : Type 0
