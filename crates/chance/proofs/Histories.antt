@@ -25,7 +25,7 @@ pub no-history : (p : List Stage) → History p []
 no-history p = record { classes = tt; undecided-before = λ y l. absurd (omega arith) }
 
 -- an undecided history and one unit more
-pub one-unit-more : (p : List Stage) (h : List ℕ) (x : ℕ) → x ≤ 2 → History p h → earliest p (counts h) ≡ GoOn → History p (h ++ (x ∷ []))
+one-unit-more : (p : List Stage) (h : List ℕ) (x : ℕ) → x ≤ 2 → History p h → earliest p (counts h) ≡ GoOn → History p (h ++ (x ∷ []))
 one-unit-more p h x l k e = record { classes = counting .appended h (x ∷ []) (k .classes) (l, tt); undecided-before = before }
   where
     before : (y : ℕ) → y < length (h ++ (x ∷ [])) → earliest p (counts (take y (h ++ (x ∷ [])))) ≡ GoOn

@@ -12,8 +12,7 @@ use native.Mathlib.Omega.{arith}
 use Rattle.chance.specs.declared.layer.Setting.{Setting}
 use Rattle.chance.specs.Bounds.{step}
 use Rattle.chance.specs.Chance.{scale}
-use Rattle.chance.specs.Layer.{rounding, setting-value, at, word-of, Values, Minimum, Ready, Line, Layer}
-use Rattle.chance.specs.Decision.{Answerable}
+use Rattle.chance.specs.Layer.{rounding, stage-value, at, word-of, Values, Minimum, Ready, Line, Layer}
 use Rattle.chance.proofs.States.{inside, same-step}
 
 same-or-not : (i k : ℕ) → (i ≡ k) ⊎ (i ≢ k)
@@ -25,7 +24,7 @@ values-set n row k v h l m i z =
 
 -- the value that the step gives the state of g nongood and b bad units
 abbrev stepped : List ℕ → Setting → List ℕ → ℕ → ℕ → ℕ → ℕ
-stepped plan s row y g b = step (rounding (s .up)) (setting-value plan s) (word-of s row) (at y g b)
+stepped plan s row y g b = step (rounding (s .up)) (stage-value plan s) (word-of s row) (at y g b)
 
 -- a row stays ready for a step
 pub still-ready : (plan before row : List ℕ) (s : Setting) (y : ℕ) → Ready plan before s y → length row ≡ length before → Values (s .r1 * s .r2) row
@@ -38,14 +37,6 @@ still-ready plan before row s y h e v = record {
 }
 
 -- ---- the states of g nongood units, up to b bad ones
-
--- the plan answers each of them
-pub answerable : (plan before : List ℕ) (s : Setting) (y g end : ℕ) → Ready plan before s y → g ≤ y → Minimum (g + 1) (s .r2) end
-    → Answerable plan y g × ((1 ≤ end) × (end ≤ g + 1))
-answerable plan before s y g end h l m = (
-  record { admitted = h .admitted; units = h .units; nongood = l },
-  (⊎-elim {C = 1 ≤ end} (λ e. omega arith) (λ e. omega (arith, h .width)) (m .one), m .first),
-)
 
 -- the place of a state that is still to come
 pub place : (plan before : List ℕ) (s : Setting) (y g b end : ℕ) → Ready plan before s y → g < s .r1 → Minimum (g + 1) (s .r2) end → b < end
@@ -72,7 +63,7 @@ module _ (plan : List ℕ) (s : Setting) (y g : ℕ) (before : List ℕ) where
         same = length-set row k value ∙ p .same;
         done = λ i l. ⊎-elim {C = getD (set row k value) (g * s .r2 + i) 0 ≡ stepped plan s before y g i}
             (λ q. subst (λ (j : ℕ). getD (set row k value) (g * s .r2 + j) 0 ≡ stepped plan s before y g j) (sym q)
-            (getD-set-same row k value 0 fits ∙ e ∙ same-step s row before k (p .later) (rounding (s .up)) (setting-value plan s) y g b h (omega arith)))
+            (getD-set-same row k value 0 fits ∙ e ∙ same-step s row before k (p .later) (rounding (s .up)) (stage-value plan s) y g b h (omega arith)))
             (λ q. getD-set-other row k (g * s .r2 + i) value 0 (omega arith) ∙ p .done i q) (eq-or-lt-of-le {n = i} {m = b} (omega arith));
         earlier = λ i l. getD-set-other row k i value 0 (omega arith) ∙ p .earlier i l;
         later = λ i l. getD-set-other row k i value 0 (omega arith) ∙ p .later i (omega arith);
@@ -107,7 +98,7 @@ module _ (plan : List ℕ) (s : Setting) (y : ℕ) (before : List ℕ) where
         same = e ∙ p .same;
         done = λ n b h l m. ⊎-elim {C = getD next (n * s .r2 + b) 0 ≡ stepped plan s before y n b}
             (λ j. subst (λ (k : ℕ). getD next (k * s .r2 + b) 0 ≡ stepped plan s before y k b) (sym j)
-            (q .done b (omega arith) m ∙ same-step s row before (g * s .r2) (p .rest) (rounding (s .up)) (setting-value plan s) y g b (omega arith) (omega arith)))
+            (q .done b (omega arith) m ∙ same-step s row before (g * s .r2) (p .rest) (rounding (s .up)) (stage-value plan s) y g b (omega arith) (omega arith)))
             (λ j. q .earlier (n * s .r2 + b) (inside g (s .r2) n b j m) ∙ p .done n b j l m) (eq-or-lt-of-le {n = n} {m = g} (omega arith));
         rest = λ i h. q .later i h ∙ p .rest i (omega (arith, add-mul g 1 (s .r2)));
         values = q .values;

@@ -1,30 +1,26 @@
--- The layers one after the other, by the plan's promises: after the layer of y units the word of each history of y units is its
--- bound with S - y units left. No history has more than S units, so the layer of S + 1 units may be words of 0.
+-- The layers one after the other, by the plan's promises: after the layer of y units the word of all counts of y units is their
+-- bound with S - y units left. After S units every state is decided, so the layer of S + 1 units may be words of 0.
 -- Assumes nothing.
-use Prim.Native.Nat.{ℕ, zero, suc, _+_, _-_, _*_, _≤_, _<_}
+use Prim.Native.Nat.{ℕ, _+_, _-_, _*_, _≤_, _<_}
 use mathlib.Core.Path.{_≡_, refl, sym, ap, subst, _∙_}
 use mathlib.Core.Logic.{_⊎_, inl, inr, ⊎-elim}
 use mathlib.Core.Bool.{Bool, true, false, cond}
-use mathlib.Core.List.{List, [], _∷_, _++_}
-use lib.ListN.{length, getD, set, length-set, length-append}
+use mathlib.Core.List.{List}
+use lib.ListN.{length, getD, set, length-set}
 use lib.Seq.{getD-set-same, getD-set-other}
 use lib.Dec.{ltb}
 use borrow.Author.Tests.{ltb-true, ltb-false, lt-ltb}
 use native.Mathlib.Nat.{eq-or-lt-of-le}
 use native.Mathlib.Omega.{arith}
 use Rattle.plan.specs.declared.counts.Counts.{Counts}
-use Rattle.plan.specs.declared.stage.Answer.{Answer}
-use Rattle.plan.specs.declared.stage.Answer.the-variants.{GoOn, Accept, Reject}
 use Rattle.plan.specs.Plan.{stages, total}
-use Rattle.plan.specs.Counts.{units, nongood, no-units, counts}
-use Rattle.plan.specs.Stopping.{earliest}
-use Rattle.plan.specs.Promise.{History, Promise}
+use Rattle.plan.specs.Counts.{units, nongood, no-units, add-units}
+use Rattle.plan.specs.Promise.{Promise}
 use Rattle.plan.proofs.Promise.{shape, promise, counting}
 use Rattle.chance.specs.declared.layer.Setting.{Setting}
-use Rattle.chance.specs.Bounds.{Rounding, Valuation, step, bound}
-use Rattle.chance.specs.Layer.{rounding, setting-value, at, word-of, Values, Layer, Beyond, Prepared}
-use Rattle.chance.proofs.Histories.{no-history, one-unit-more}
-use Rattle.chance.proofs.States.{accepted-step, rejected-step, step-agree}
+use Rattle.chance.specs.Bounds.{step, bound}
+use Rattle.chance.specs.Layer.{rounding, setting-value, stage-value, at, word-of, Values, Layer, Beyond, Prepared}
+use Rattle.chance.proofs.StageEnds.{bound-rejected, stage-step}
 
 -- ---- words made 0 up to the place k
 
@@ -45,15 +41,7 @@ clear-more before row k p h =
       beyond = λ i l. getD-set-other row k i 0 0 (omega arith) ∙ p .beyond i (omega arith);
     }
 
--- ---- a decided value is the same with any number of units left
-
-bound-accepted : (r : Rounding) (v : Valuation) (n : ℕ) (c : Counts) → v .decision c ≡ Accept → v .accepted ≡ bound r v n c
-bound-accepted r v zero c e = accepted-step r v (λ d. 0) c e
-bound-accepted r v (suc n) c e = accepted-step r v (bound r v n) c e
-
-bound-rejected : (r : Rounding) (v : Valuation) (n : ℕ) (c : Counts) → v .decision c ≡ Reject → v .rejected ≡ bound r v n c
-bound-rejected r v zero c e = rejected-step r v (λ d. 0) c e
-bound-rejected r v (suc n) c e = rejected-step r v (bound r v n) c e
+-- ---- the layers down to y units
 
 -- counts are known by their units, nongood and bad
 at-of : (c : Counts) (y : ℕ) → units c ≡ y → at y (nongood c) (c .bad) ≡ c
@@ -62,13 +50,11 @@ at-of c y e =
     let q : nongood c - c .bad ≡ c .marginal = omega arith in
     λ i. record { good = p i; marginal = q i; bad = c .bad }
 
--- ---- the layers down to y units
-
 pub record Layers-to (plan : List ℕ) (s : Setting) (before row : List ℕ) (y : ℕ) : Type 0 where
   pub upto : y ≤ total (stages plan) + 1
   pub same : length row ≡ length before
-  pub bounds : (h : List ℕ) → History (stages plan) h → length h ≡ y
-      → word-of s row (counts h) ≡ bound (rounding (s .up)) (setting-value plan s) (total (stages plan) - y) (counts h)
+  pub bounds : (c : Counts) → units c ≡ y → y ≤ total (stages plan)
+      → word-of s row c ≡ bound (rounding (s .up)) (setting-value plan s) (total (stages plan) - y) c
   pub beyond : Beyond (s .r1 * s .r2) before row
   pub values : Values (s .r1 * s .r2) row
 
@@ -82,38 +68,25 @@ module _ (plan start : List ℕ) (s : Setting) (prepared : Prepared plan start (
       record {
         upto = omega arith;
         same = refl;
-        bounds = λ h past l. absurd (omega (arith, promised .no-longer h past));
+        bounds = λ c u w. absurd (omega arith);
         beyond = λ i m. refl;
         values = λ i m. omega (arith, zeros i m);
       }
 
   -- counts that reach a last rejection number are worth 0
-  out : (k : ℕ) (h : List ℕ) → History (stages plan) h → (s .r1 ≤ nongood (counts h)) ⊎ (s .r2 ≤ counts h .bad)
-      → 0 ≡ bound (rounding (s .up)) (setting-value plan s) k (counts h)
-  out k h past o =
-      bound-rejected (rounding (s .up)) (setting-value plan s) k (counts h)
-      (promised .rejects (counts h) (omega (arith, counting .length-of h, promised .no-longer h past)) (rw (← prepared .reject1, ← prepared .reject2) o))
+  out : (k : ℕ) (c : Counts) → units c ≤ total (stages plan) → (s .r1 ≤ nongood c) ⊎ (s .r2 ≤ c .bad)
+      → 0 ≡ bound (rounding (s .up)) (setting-value plan s) k c
+  out k c w o =
+      bound-rejected (rounding (s .up)) (setting-value plan s) k c (promised .rejects c w (rw (← prepared .reject1, ← prepared .reject2) o))
 
   -- a step from words that are the bounds one unit on
-  step-bound : (row : List ℕ) (y : ℕ) → Layers-to plan s before row (y + 1) → (h : List ℕ) → History (stages plan) h → length h ≡ y
-      → step (rounding (s .up)) (setting-value plan s) (word-of s row) (counts h) ≡ bound (rounding (s .up)) (setting-value plan s) (total (stages plan) - y) (counts h)
-  step-bound row y q h past e = go (earliest (stages plan) (counts h)) refl
-    where
-      go : (a : Answer) → earliest (stages plan) (counts h) ≡ a
-          → step (rounding (s .up)) (setting-value plan s) (word-of s row) (counts h) ≡ bound (rounding (s .up)) (setting-value plan s) (total (stages plan) - y) (counts h)
-      go Accept d =
-          sym (accepted-step (rounding (s .up)) (setting-value plan s) (word-of s row) (counts h) d)
-          ∙ bound-accepted (rounding (s .up)) (setting-value plan s) (total (stages plan) - y) (counts h) d
-      go Reject d =
-          sym (rejected-step (rounding (s .up)) (setting-value plan s) (word-of s row) (counts h) d)
-          ∙ bound-rejected (rounding (s .up)) (setting-value plan s) (total (stages plan) - y) (counts h) d
-      go GoOn d =
-          let more : y < total (stages plan) = ⊎-elim {C = y < total (stages plan)} (λ z. absurd (promised .decided h past (e ∙ z) d)) (λ z. z)
-          (eq-or-lt-of-le {n = y} {m = total (stages plan)} (omega (arith, promised .no-longer h past))) in
-          let left : suc (total (stages plan) - (y + 1)) ≡ total (stages plan) - y = omega arith in
-          step-agree (rounding (s .up)) (setting-value plan s) (word-of s row) (bound (rounding (s .up)) (setting-value plan s) (total (stages plan) - (y + 1))) (counts h)
-          (λ x l. rw (counting .one-more h x) at (q .bounds (h ++ (x ∷ [])) (one-unit-more (stages plan) h x l past d) (omega (arith, length-append h (x ∷ [])))))
-          ∙ ap (λ (k : ℕ). bound (rounding (s .up)) (setting-value plan s) k (counts h)) left
+  step-bound : (row : List ℕ) (y : ℕ) → Layers-to plan s before row (y + 1) → (c : Counts) → units c ≡ y → y ≤ total (stages plan)
+      → step (rounding (s .up)) (stage-value plan s) (word-of s row) c ≡ bound (rounding (s .up)) (setting-value plan s) (total (stages plan) - y) c
+  step-bound row y q c u w =
+      stage-step plan s promised (prepared .proportions .some) (rounding (s .up)) (word-of s row) c (omega arith)
+      (λ m x. q .bounds (add-units x 1 c) (omega (arith, counting .added x 1 c)) (omega arith)
+      ∙ ap (λ (k : ℕ). bound (rounding (s .up)) (setting-value plan s) (total (stages plan) - (k + 1)) (add-units x 1 c)) (sym u))
+      ∙ ap (λ (k : ℕ). bound (rounding (s .up)) (setting-value plan s) (total (stages plan) - k) c) u
 
   pub layers-more : (row next : List ℕ) (y : ℕ) → Layers-to plan s before row (y + 1) → length next ≡ length row → Layer plan s y row next
       → Layers-to plan s before next y
@@ -126,23 +99,20 @@ module _ (plan start : List ℕ) (s : Setting) (prepared : Prepared plan start (
         values = t .values;
       }
     where
-      bounds : (h : List ℕ) → History (stages plan) h → length h ≡ y
-          → word-of s next (counts h) ≡ bound (rounding (s .up)) (setting-value plan s) (total (stages plan) - y) (counts h)
-      bounds h past l = go (ltb (nongood (counts h)) (s .r1)) (ltb (counts h .bad) (s .r2)) refl refl
+      bounds : (c : Counts) → units c ≡ y → y ≤ total (stages plan)
+          → word-of s next c ≡ bound (rounding (s .up)) (setting-value plan s) (total (stages plan) - y) c
+      bounds c u w = go (ltb (nongood c) (s .r1)) (ltb (c .bad) (s .r2)) refl refl
         where
-          u : units (counts h) ≡ y
-          u = counting .length-of h ∙ l
-
-          go : (a b : Bool) → ltb (nongood (counts h)) (s .r1) ≡ a → ltb (counts h .bad) (s .r2) ≡ b
-              → cond a (cond b (getD next (nongood (counts h) * s .r2 + counts h .bad) 0) 0) 0
-              ≡ bound (rounding (s .up)) (setting-value plan s) (total (stages plan) - y) (counts h)
+          go : (a b : Bool) → ltb (nongood c) (s .r1) ≡ a → ltb (c .bad) (s .r2) ≡ b
+              → cond a (cond b (getD next (nongood c * s .r2 + c .bad) 0) 0) 0
+              ≡ bound (rounding (s .up)) (setting-value plan s) (total (stages plan) - y) c
           go true true f g =
-              t .done (nongood (counts h)) (counts h .bad) (omega arith) (omega (arith, u)) (ltb-true _ _ f) (ltb-true _ _ g)
-              ∙ ap (step (rounding (s .up)) (setting-value plan s) (word-of s row)) (at-of (counts h) y u)
-              ∙ step-bound row y q h past l
-          go true false f g = out (total (stages plan) - y) h past (inr (ltb-false _ _ g))
-          go false true f g = out (total (stages plan) - y) h past (inl (ltb-false _ _ f))
-          go false false f g = out (total (stages plan) - y) h past (inl (ltb-false _ _ f))
+              t .done (nongood c) (c .bad) (omega arith) (omega (arith, u)) (ltb-true _ _ f) (ltb-true _ _ g)
+              ∙ ap (step (rounding (s .up)) (stage-value plan s) (word-of s row)) (at-of c y u)
+              ∙ step-bound row y q c u w
+          go true false f g = out (total (stages plan) - y) c (omega arith) (inr (ltb-false _ _ g))
+          go false true f g = out (total (stages plan) - y) c (omega arith) (inl (ltb-false _ _ f))
+          go false false f g = out (total (stages plan) - y) c (omega arith) (inl (ltb-false _ _ f))
 
   pub layers-all : (row : List ℕ) → Layers-to plan s before row 0
       → getD row 0 0 ≡ bound (rounding (s .up)) (setting-value plan s) (total (stages plan)) no-units
@@ -153,5 +123,5 @@ module _ (plan start : List ℕ) (s : Setting) (prepared : Prepared plan start (
       let place : 0 ≡ 0 * s .r2 + 0 = omega arith in
       let left : total (stages plan) - 0 ≡ total (stages plan) = omega arith in
       ap (λ (k : ℕ). getD row k 0) place
-      ∙ (rw (counting .empty, lt-ltb 0 (s .r1) h, lt-ltb 0 (s .r2) l) at (q .bounds [] (no-history (stages plan)) refl))
+      ∙ (rw (lt-ltb 0 (s .r1) h, lt-ltb 0 (s .r2) l) at (q .bounds no-units refl (omega arith)))
       ∙ ap (λ (k : ℕ). bound (rounding (s .up)) (setting-value plan s) k no-units) left

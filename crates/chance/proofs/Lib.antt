@@ -6,8 +6,8 @@ mod Histories
 mod Law
 mod Quotient
 mod States
-mod Boundaries
 mod InPlace
+mod StageEnds
 mod Induction
 mod Parts
 mod Replies

@@ -11,15 +11,16 @@ use native.Mathlib.Nat.{mul-le-mul-left, mul-le-mul-right, suc-mul, zero-add, ad
 use native.Mathlib.Omega.{arith}
 use Rattle.plan.specs.declared.counts.Counts.{Counts}
 use Rattle.plan.specs.declared.stage.Answer.the-variants.{GoOn, Accept, Reject}
+use Rattle.plan.specs.declared.ways.StageWay.the-variants.{Uncurtailed}
 use Rattle.plan.specs.Plan.{stages}
 use Rattle.plan.specs.Counts.{nongood, add-units}
-use Rattle.plan.specs.Stopping.{earliest}
+use Rattle.plan.specs.Stopping.{staged}
 use Rattle.plan.proofs.Promise.{counting}
 use Rattle.chance.specs.declared.mean.Weights.{Weights}
 use Rattle.chance.specs.declared.layer.Setting.{Setting}
 use Rattle.chance.specs.Bounds.{weight-sum, weighted, Rounding, rounded, Valuation, step}
 use Rattle.chance.specs.Chance.{scale}
-use Rattle.chance.specs.Layer.{setting-value, at, word, word-of, Values, Proportions}
+use Rattle.chance.specs.Layer.{rounding, stage-value, at, word, word-of, mean-on, Values, Proportions}
 use Rattle.chance.proofs.Rounding.{rounded-le}
 
 -- ---- the mean of three values
@@ -61,11 +62,9 @@ accepted-step r v next c e = rw e
 pub rejected-step : (r : Rounding) (v : Valuation) (next : Counts → ℕ) (c : Counts) → v .decision c ≡ Reject → v .rejected ≡ step r v next c
 rejected-step r v next c e = rw e
 
-pub further-step : (plan row : List ℕ) (s : Setting) (r : Rounding) (y g b good marginal bad value : ℕ) → b ≤ g → earliest (stages plan) (at y g b) ≡ GoOn
-    → good ≡ word (s .r1) (s .r2) row g b → marginal ≡ word (s .r1) (s .r2) row (g + 1) b → bad ≡ word (s .r1) (s .r2) row (g + 1) (b + 1)
-    → value ≡ rounded r (weighted (s .weights) good marginal bad) (weight-sum (s .weights))
-    → value ≡ step r (setting-value plan s) (word-of s row) (at y g b)
-further-step plan row s r y g b good marginal bad value h go p q t e =
+pub further-step : (plan row : List ℕ) (s : Setting) (y g b : ℕ) → b ≤ g → staged Uncurtailed (stages plan) (at y g b) ≡ GoOn
+    → mean-on s row g b ≡ step (rounding (s .up)) (stage-value plan s) (word-of s row) (at y g b)
+further-step plan row s y g b h go =
     let e0 : g - b + b ≡ g = omega arith in
     let e1 : g - b + 1 + b ≡ g + 1 = omega arith in
     let e2 : g - b + (b + 1) ≡ g + 1 = omega arith in
@@ -78,10 +77,7 @@ further-step plan row s r y g b good marginal bad value h go p q t e =
       e0,
       e1,
       e2,
-      ← p,
-      ← q,
-      ← t,
-    ) e
+    )
 
 -- a step looks at three counts alone
 pub step-agree : (r : Rounding) (v : Valuation) (f g : Counts → ℕ) (c : Counts) → ((x : ℕ) → x ≤ 2 → f (add-units x 1 c) ≡ g (add-units x 1 c))

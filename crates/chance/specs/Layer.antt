@@ -8,8 +8,10 @@ use mathlib.Core.List.{List}
 use lib.ListN.{length, getD}
 use lib.Dec.{ltb}
 use Rattle.plan.specs.declared.counts.Counts.{Counts}
-use Rattle.plan.specs.Plan.{stages, last-reject1, last-reject2, admitted}
+use Rattle.plan.specs.declared.ways.StageWay.the-variants.{Uncurtailed}
+use Rattle.plan.specs.Plan.{stages, End, last-reject1, last-reject2, admitted}
 use Rattle.plan.specs.Counts.{nongood}
+use Rattle.plan.specs.Stopping.{staged}
 use Rattle.chance.specs.declared.mean.Weights.{Weights}
 use Rattle.chance.specs.declared.layer.Setting.{Setting}
 use Rattle.chance.specs.Bounds.{weight-sum, weighted, Rounding, down, up, rounded, Valuation, step}
@@ -21,6 +23,11 @@ rounding true = up
 
 abbrev pub setting-value : List ℕ → Setting → Valuation
 setting-value plan s = chance-value (stages plan) (constant (s .weights))
+
+-- the same where stage ends alone decide. It has the same bounds (proofs/StageEnds.antt)
+abbrev pub stage-value : List ℕ → Setting → Valuation
+stage-value plan s =
+    record { decision = staged Uncurtailed (stages plan); weights = constant (s .weights); accepted = scale; rejected = 0; cost = 0 }
 
 -- the counts of y units of which g are nongood and b bad
 abbrev pub at : ℕ → ℕ → ℕ → Counts
@@ -65,19 +72,20 @@ pub record Ready (plan row : List ℕ) (s : Setting) (y : ℕ) : Type 0 where
   pub width : 1 ≤ s .r2
   pub words : Row row s
 
--- the value where fewer than `accepted` bad units are accepted, and `rejected` or more are rejected
-abbrev pub value-between : Setting → List ℕ → (g b accepted rejected : ℕ) → ℕ
-value-between s row g b accepted rejected =
-    cond (ltb b accepted) scale
-    (cond (ltb b rejected)
-    (rounded (rounding (s .up))
+-- false only where no stage ends after y units
+abbrev pub May-end : List ℕ → ℕ → Bool → Type 0
+May-end plan y ends = ends ≡ false → End 0 (stages plan) y → ⊥
+
+-- the mean of the values one unit on
+abbrev pub mean-on : Setting → List ℕ → ℕ → ℕ → ℕ
+mean-on s row g b =
+    rounded (rounding (s .up))
     (weighted (s .weights) (word (s .r1) (s .r2) row g b) (word (s .r1) (s .r2) row (g + 1) b) (word (s .r1) (s .r2) row (g + 1) (b + 1)))
-    (weight-sum (s .weights)))
-    0)
+    (weight-sum (s .weights))
 
 -- the row after a step of the states of g nongood units
 pub record Line (plan : List ℕ) (s : Setting) (y g : ℕ) (before after : List ℕ) : Type 0 where
-  pub done : (b : ℕ) → b ≤ g → b < s .r2 → getD after (g * s .r2 + b) 0 ≡ step (rounding (s .up)) (setting-value plan s) (word-of s before) (at y g b)
+  pub done : (b : ℕ) → b ≤ g → b < s .r2 → getD after (g * s .r2 + b) 0 ≡ step (rounding (s .up)) (stage-value plan s) (word-of s before) (at y g b)
   pub earlier : (i : ℕ) → i < g * s .r2 → getD after i 0 ≡ getD before i 0
   pub later : Beyond ((g + 1) * s .r2) before after
   pub values : Values (s .r1 * s .r2) after
@@ -85,7 +93,7 @@ pub record Line (plan : List ℕ) (s : Setting) (y g : ℕ) (before after : List
 -- the row after a step of the whole layer
 pub record Layer (plan : List ℕ) (s : Setting) (y : ℕ) (before after : List ℕ) : Type 0 where
   pub done : (g b : ℕ) → b ≤ g → g ≤ y → g < s .r1 → b < s .r2
-      → getD after (g * s .r2 + b) 0 ≡ step (rounding (s .up)) (setting-value plan s) (word-of s before) (at y g b)
+      → getD after (g * s .r2 + b) 0 ≡ step (rounding (s .up)) (stage-value plan s) (word-of s before) (at y g b)
   pub beyond : Beyond (s .r1 * s .r2) before after
   pub values : Values (s .r1 * s .r2) after
 

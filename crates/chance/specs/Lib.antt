@@ -3,5 +3,4 @@ pub mod Chance
 pub mod Fraction
 pub mod Reply
 pub mod Layer
-pub mod Decision
 pub mod Laws

@@ -5,7 +5,6 @@ mod acceptance;
 mod answers;
 mod backward;
 mod charting;
-mod decision;
 mod layer;
 mod mean;
 

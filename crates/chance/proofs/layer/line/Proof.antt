@@ -2,78 +2,62 @@
 use Prim.Native.Nat.{_≤_, _-_}
 use mathlib.Core.Path.{_≡_, subst}
 use native.Mathlib.Omega.{arith}
-use Rattle.chance.proofs.Boundaries.{between-step}
-use Rattle.chance.proofs.InPlace.{still-ready, answerable, place, Line-to, line-none, line-more, line-all}
+use Rattle.chance.proofs.InPlace.{still-ready, place, Line-to, line-none, line-more, line-all}
 use Rattle.chance.proofs.layer.line.Statement.{statement}
 use Rattle.chance.proofs.layer.line.Tie as tie
 
 abbrev Inv-loop : tie.InvT-loop
-Inv-loop plan row₀ s y g r2 end accepted rejected b₀ row b = (b ≤ end) × Line-to plan s y g row₀ row b
+Inv-loop plan row₀ s y g ends r2 end b₀ row b = (b ≤ end) × Line-to plan s y g row₀ row b
 
 abbrev μ-loop : tie.MeasureT-loop
-μ-loop plan row₀ s y g r2 end accepted rejected b₀ row b = end - b
-
-first-below-requires : tie.Need-first-below-requires Inv-loop μ-loop
-first-below-requires c κs =
-    let start = c .before .before .before in
-    let a = start .args in
-    answerable (a .plan .now) (a .row .now) (a .s) (a .y) (a .g) (c .minimum .result) (start .pre .0) (omega arith) (c .minimum .ensures)
-
-first-below-requires-2 : tie.Need-first-below-requires-2 Inv-loop μ-loop
-first-below-requires-2 c κs =
-    let start = c .before .before .before .before in
-    let a = start .args in
-    answerable (a .plan .now) (a .row .now) (a .s) (a .y) (a .g) (c .before .minimum .result) (start .pre .0) (omega arith) (c .before .minimum .ensures)
+μ-loop plan row₀ s y g ends r2 end b₀ row b = end - b
 
 loop-holds : tie.Need-loop-holds Inv-loop μ-loop
 loop-holds c =
-    let start = c .before .before .before .before .before in
+    let start = c .before .before .before in
     let a = start .args in (omega arith, line-none (a .plan .now) (a .s) (a .y) (a .g) (a .row .now) (start .pre .0 .words .values))
 
 state-value-requires : tie.Need-state-value-requires Inv-loop μ-loop
 state-value-requires c κs =
-    let start = c .before .before .before .before .before .before .before .before in
+    let start = c .before .before .before .before .before .before in
     let a = start .args in
     let l = c .before .before .loop in (
-      still-ready (a .plan .now) (a .row .now) (l .row) (a .s) (a .y) (start .pre .0) (l .inv .1 .same) (l .inv .1 .values) .words,
-      (omega (arith, c .before .before .before .before .before .minimum .ensures), omega (arith, start .pre .0 .units)),
+      still-ready (a .plan .now) (a .row .now) (l .row) (a .s) (a .y) (start .pre .0) (l .inv .1 .same) (l .inv .1 .values),
+      (start .pre .1 .0, (omega (arith, c .before .before .before .minimum .ensures), omega arith)),
     )
 
 -- the place that is written, for each need at it
 mul-row : tie.Need-mul-row Inv-loop μ-loop
 mul-row c =
-    let start = c .before .before .before .before .before .before .before .before .before in
-    omega (arith, place _ _ _ _ _ (c .before .before .before .loop .b) _ (start .pre .0) (omega arith) (c .before .before .before .before .before .before .minimum .ensures) (omega arith))
+    let start = c .before .before .before .before .before .before .before in
+    omega (arith, place _ _ _ _ _ (c .before .before .before .loop .b) _ (start .pre .0) (omega arith) (c .before .before .before .before .minimum .ensures) (omega arith))
 
 add-row : tie.Need-add-row Inv-loop μ-loop
 add-row c =
-    let start = c .before .before .before .before .before .before .before .before .before in
-    omega (arith, place _ _ _ _ _ (c .before .before .before .loop .b) _ (start .pre .0) (omega arith) (c .before .before .before .before .before .before .minimum .ensures) (omega arith))
+    let start = c .before .before .before .before .before .before .before in
+    omega (arith, place _ _ _ _ _ (c .before .before .before .loop .b) _ (start .pre .0) (omega arith) (c .before .before .before .before .minimum .ensures) (omega arith))
 
 mul-row-2 : tie.Need-mul-row-2 Inv-loop μ-loop
 mul-row-2 c =
-    let start = c .before .before .before .before .before .before .before .before .before in
-    omega (arith, place _ _ _ _ _ (c .before .before .before .loop .b) _ (start .pre .0) (omega arith) (c .before .before .before .before .before .before .minimum .ensures) (omega arith))
+    let start = c .before .before .before .before .before .before .before in
+    omega (arith, place _ _ _ _ _ (c .before .before .before .loop .b) _ (start .pre .0) (omega arith) (c .before .before .before .before .minimum .ensures) (omega arith))
 
 slice-write-row : tie.Need-slice-write-row Inv-loop μ-loop
 slice-write-row c =
-    let start = c .before .before .before .before .before .before .before .before .before in
+    let start = c .before .before .before .before .before .before .before in
     let l = c .before .before .before .loop in
-    omega (arith, l .inv .1 .same, place _ _ _ _ _ (l .b) _ (start .pre .0) (omega arith) (c .before .before .before .before .before .before .minimum .ensures) (omega arith))
+    omega (arith, l .inv .1 .same, place _ _ _ _ _ (l .b) _ (start .pre .0) (omega arith) (c .before .before .before .before .minimum .ensures) (omega arith))
 
 loop-again : tie.Need-loop-again Inv-loop μ-loop
 loop-again c =
-    let start = c .before .before .before .before .before .before .before .before .before in
+    let start = c .before .before .before .before .before .before .before in
     let a = start .args in
     let l = c .before .before .before .loop in
-    let end = c .before .before .before .before .before .before .minimum in
-    let h : l .b ≤ a .g = omega (arith, end .ensures) in (
+    let end = c .before .before .before .before .minimum in (
       omega arith,
       line-more (a .plan .now) (a .s) (a .y) (a .g) (a .row .now) (l .row) (l .b) (c .state-value .result) (l .inv .1)
-          (place _ _ _ _ _ (l .b) _ (start .pre .0) (omega arith) (c .before .before .before .before .before .before .minimum .ensures) (omega arith)) h
-          (between-step (a .plan .now) (l .row) (a .s) (a .y) (a .g) (l .b) (end .result) _ _ _ h (omega arith)
-          (c .before .before .before .before .before .first-below .ensures) (c .before .before .before .before .first-below2 .ensures) (c .state-value .ensures .0))
-          (c .state-value .ensures .1),
+          (place _ _ _ _ _ (l .b) _ (start .pre .0) (omega arith) (end .ensures) (omega arith)) (omega (arith, end .ensures))
+          (c .state-value .ensures .0) (c .state-value .ensures .1),
     )
 
 same-length : tie.Need-same-length Inv-loop μ-loop
@@ -81,9 +65,9 @@ same-length c = c .before .loop .inv .1 .same
 
 returns : tie.Need-returns Inv-loop μ-loop
 returns c =
-    let a = c .before .before .before .before .before .before .before .args in
+    let a = c .before .before .before .before .before .args in
     let l = c .before .loop in
-    let end = c .before .before .before .before .minimum in
+    let end = c .before .before .minimum in
     let e : l .b ≡ end .result = omega arith in
     line-all (a .plan .now) (a .s) (a .y) (a .g) (a .row .now) (l .row) (end .result)
     (subst (Line-to (a .plan .now) (a .s) (a .y) (a .g) (a .row .now) (l .row)) e (l .inv .1)) (end .ensures)
@@ -96,8 +80,6 @@ line-spec =
     μ-loop
     (λ c. omega arith)
     (λ c κs. tt)
-    first-below-requires
-    first-below-requires-2
     loop-holds
     state-value-requires
     mul-row
