@@ -1,43 +1,72 @@
 -- One step along a chain of inspections, as the code takes it. Assumes nothing.
 use Prim.Native.Nat.{ℕ, zero, suc, _-_, _<_}
-use mathlib.Core.Path.{_≡_, refl, sym, ap, ap₂, _∙_}
-use mathlib.Core.Bool.{Bool, true, false, cond, _&&_, and-false, and-true}
+use mathlib.Core.Path.{_≡_, refl, sym, ap, _∙_}
+use mathlib.Core.Bool.{Bool, true, false, cond, _&&_, and-false}
 use mathlib.Core.Option.{Option, none, some}
 use mathlib.Core.List.{List, [], _∷_}
 use native.Mathlib.Omega.{arith}
 use lib.ListN.{length}
 use borrow.Author.Tests.{eq-eqb, ne-eqb}
 use Rattle.plan.specs.declared.counts.Counts.{Counts}
-use Rattle.plan.specs.Plan.{Stage}
+use Rattle.plan.specs.Plan.{Stage, end-below}
 use Rattle.plan.specs.Counts.{units, no-units, add-units, counts}
+use Rattle.plan.specs.declared.stage.Answer.the-variants.{GoOn}
+use Rattle.plan.specs.Stopping.{earliest}
 use Rattle.plan.proofs.Promise.{counting}
 use Rattle.sheet.specs.declared.record.Record.{Record}
 use Rattle.sheet.specs.declared.chain.Chain.{Chain}
 use Rattle.sheet.specs.declared.chain.Chain.the-variants.{Cut, Whole}
+use Rattle.sheet.specs.declared.chain.Part.the-variants as part
 use Rattle.sheetmodel.specs.Layout.{field, next, first-record}
 use Rattle.sheetmodel.specs.Contents.{Inspection, classes}
 use Rattle.sheetmodel.specs.Read.{guard, then, read-inspections}
-use Rattle.sheet.specs.Survey.{record-at, is-inspection, may-go-on, next-test, tested, chain-of}
+use Rattle.sheet.specs.Survey.{record-at, is-inspection, may-go-on, next-test, tested, chain-of, all-units, if-undecided, with-newer, with-older}
 use Rattle.sheetmodel.proofs.Promise.{classes-cons, length-classes, sound-inspections}
 
--- what the chain of the older inspections gives with an inspection of class x after it
-abbrev pub after-older : List Stage → ℕ → ℕ → ℕ → Chain → Chain
-after-older p test n x Cut = Cut
-after-older p test n x (Whole c) = cond (may-go-on p test n c) (Whole (add-units x 1 c)) Cut
+-- a chain with one newer inspection of class x
+abbrev one-newer : ℕ → Chain → Chain
+one-newer x Cut = Cut
+one-newer x (Whole c) = Whole (add-units x 1 c)
+
+-- a chain of n inspections, undecided if n is the number to be tested
+abbrev pub going-on : List Stage → ℕ → ℕ → Chain → Chain
+going-on p test n Cut = Cut
+going-on p test n (Whole c) = cond (may-go-on p test n c) (Whole c) Cut
+
+same-counts : {g g′ m m′ b b′ : ℕ} → g ≡ g′ → m ≡ m′ → b ≡ b′
+    → _≡_ {A = Counts} (record { good = g; marginal = m; bad = b }) (record { good = g′; marginal = m′; bad = b′ })
+same-counts e f g = cc
 
 pub classes-counted : (i : Inspection) (is : List Inspection) → counts (classes (i ∷ is)) ≡ add-units (i .class) 1 (counts (classes is))
 classes-counted i is = ap counts (classes-cons i is) ∙ counting .one-more (classes is) (i .class)
 
 -- n inspections are older, if any are read
 one-more : (p : List Stage) (test n : ℕ) (i : Inspection) (older : Option (List Inspection)) → ((is : List Inspection) → older ≡ some is → length is ≡ n)
-    → chain-of (tested p test) (then older (λ is. some (i ∷ is))) ≡ after-older p test n (i .class) (chain-of (tested p (next-test p test n)) older)
+    → chain-of (tested p test) (then older (λ is. some (i ∷ is))) ≡ one-newer (i .class) (going-on p test n (chain-of (tested p (next-test p test n)) older))
 one-more p test n i none l = refl
 one-more p test n i (some is) l = rw (l is refl) (go (tested p (next-test p test n) is) (may-go-on p test n (counts (classes is))) refl)
   where
     go : (t m : Bool) → may-go-on p test n (counts (classes is)) ≡ m
-        → cond (m && t) (Whole (counts (classes (i ∷ is)))) Cut ≡ after-older p test n (i .class) (cond t (Whole (counts (classes is))) Cut)
-    go true m e = rw (and-true m, e, classes-counted i is)
+        → cond (m && t) (Whole (counts (classes (i ∷ is)))) Cut ≡ one-newer (i .class) (going-on p test n (cond t (Whole (counts (classes is))) Cut))
+    go true true e = rw (e, classes-counted i is)
+    go true false e = rw e
     go false m e = rw (and-false m)
+
+-- units move from the older to the newer ones
+moved : (x : ℕ) (c d : Counts) → all-units (add-units x 1 c) d ≡ all-units c (add-units x 1 d)
+unfolding add-units
+moved zero c d = same-counts (omega arith) refl refl
+moved (suc zero) c d = same-counts refl (omega arith) refl
+moved (suc (suc zero)) c d = same-counts refl refl (omega arith)
+moved (suc (suc (suc x))) c d = same-counts refl (omega arith) refl
+
+newer-moved : (x : ℕ) (d : Counts) (v : Chain) → with-newer d (one-newer x v) ≡ with-newer (add-units x 1 d) v
+newer-moved x d Cut = refl
+newer-moved x d (Whole c) = ap Whole (moved x c d)
+
+none-newer : (v : Chain) → with-newer no-units v ≡ v
+none-newer Cut = refl
+none-newer (Whole c) = ap Whole (same-counts (omega arith) (omega arith) (omega arith))
 
 module _ (w : List ℕ) (lot : ℕ) where
   -- at the end of a chain
@@ -59,20 +88,63 @@ module _ (w : List ℕ) (lot : ℕ) where
   pub cut-here : (test : List Inspection → Bool) (n at : ℕ) → 0 < n → is-inspection w lot n at ≡ false → chain-of test (read-inspections first-record w lot n at) ≡ Cut
   cut-here test n at l e = rw (step n at l, e)
 
-  pub further : (p : List Stage) (test n at : ℕ) → 0 < n → is-inspection w lot n at ≡ true → chain-of (tested p test) (read-inspections first-record w lot n at) ≡
-      after-older p test (n - 1) (field w at 0) (chain-of (tested p (next-test p test (n - 1))) (read-inspections first-record w lot (n - 1) (next w at)))
+  -- the older inspections where n are left, from the record `at` on
+  abbrev pub rest : List Stage → ℕ → ℕ → ℕ → Chain
+  rest p test n at = going-on p test n (chain-of (tested p (next-test p test n)) (read-inspections first-record w lot n at))
+
+  further : (p : List Stage) (test n at : ℕ) → 0 < n → is-inspection w lot n at ≡ true
+      → chain-of (tested p test) (read-inspections first-record w lot n at) ≡ one-newer (field w at 0) (rest p test (n - 1) (next w at))
   further p test n at l e =
       rw (step n at l, e)
       (one-more p test (n - 1) (record { at = at; class = field w at 0 }) (read-inspections first-record w lot (n - 1) (next w at))
       (λ is f. sym (sound-inspections first-record w lot (n - 1) (next w at) is f .1)))
 
-  -- the same, with the values that the code has: r is the record, and v what the chain of the older inspections gave
-  pub further-by : (p : List Stage) (test n at : ℕ) → 0 < n → is-inspection w lot n at ≡ true → (r : Record) → r ≡ record-at w at
-      → (below : ℕ) → below ≡ next-test p test (n - 1) → (v : Chain) → v ≡ chain-of (tested p below) (read-inspections first-record w lot (n - 1) (r .b))
-      → chain-of (tested p test) (read-inspections first-record w lot n at) ≡ after-older p test (n - 1) (r .a) v
-  further-by p test n at l e r f below g v h =
-      let k : v ≡ chain-of (tested p (next-test p test (n - 1))) (read-inspections first-record w lot (n - 1) (next w at)) = rw (g, ap (λ (x : Record). x .b) f) at h in
-      further p test n at l e ∙ ap₂ (after-older p test (n - 1)) (sym (ap (λ (x : Record). x .a) f)) (sym k)
+  -- n is not the number to be tested
+  not-tested : (p : List Stage) (test n at : ℕ) → test < n → rest p test n at ≡ chain-of (tested p test) (read-inspections first-record w lot n at)
+  not-tested p test n at l = rw (ne-eqb n test (λ e. omega arith)) (go (chain-of (tested p test) (read-inspections first-record w lot n at)))
+    where
+      go : (v : Chain) → going-on p test n v ≡ v
+      go Cut = refl
+      go (Whole c) = rw (ne-eqb n test (λ e. omega arith))
+
+  -- n is
+  is-tested : (p : List Stage) (test n at : ℕ) → n ≡ test
+      → rest p test n at ≡ if-undecided p (chain-of (tested p (end-below 0 p test)) (read-inspections first-record w lot test at))
+  is-tested p test n at e = rw (e, eq-eqb test test refl) (go (chain-of (tested p (end-below 0 p test)) (read-inspections first-record w lot test at)))
+    where
+      go : (v : Chain) → going-on p test test v ≡ if-undecided p v
+      go Cut = refl
+      go (Whole c) = rw (eq-eqb test test refl)
+
+  -- the newer inspections, passed one by one: c are the units of those passed, n are left from the record `at` on
+  pub part-start : (p : List Stage) (test n at : ℕ) → test < n → chain-of (tested p test) (read-inspections first-record w lot n at) ≡ with-newer no-units (rest p test n at)
+  part-start p test n at l = sym (none-newer (rest p test n at) ∙ not-tested p test n at l)
+
+  pub part-cut : (p : List Stage) (test n at : ℕ) (c : Counts) → test < n → is-inspection w lot n at ≡ false → with-newer c (rest p test n at) ≡ Cut
+  part-cut p test n at c l e = ap (with-newer c) (not-tested p test n at l ∙ cut-here (tested p test) n at (omega arith) e)
+
+  -- r is the record
+  pub part-step : (p : List Stage) (test n at : ℕ) (c : Counts) → test < n → is-inspection w lot n at ≡ true → (r : Record) → r ≡ record-at w at
+      → with-newer c (rest p test n at) ≡ with-newer (add-units (r .a) 1 c) (rest p test (n - 1) (r .b))
+  part-step p test n at c l e r f =
+      rw f
+      (ap (with-newer c) (not-tested p test n at l ∙ further p test n at (omega arith) e)
+      ∙ newer-moved (field w at 0) c (rest p test (n - 1) (next w at)))
+
+  pub part-done : (p : List Stage) (test n at : ℕ) (c : Counts) → n ≡ test → with-newer c (rest p test n at) ≡ with-older p w lot test (part.Whole c at)
+  part-done p test n at c e = ap (with-newer c) (is-tested p test n at e)
+
+  -- the newer inspections are passed: no older one is left, or v is what the older ones gave
+  module _ (p : List Stage) (test at : ℕ) (c : Counts) where
+    pub none-older : earliest p no-units ≡ GoOn → test ≡ 0 → at ≡ 0 → with-older p w lot test (part.Whole c at) ≡ Whole c
+    none-older u e f = rw (e, ended (tested p (end-below 0 p 0)) at f refl, u) (ap Whole (same-counts (omega arith) (omega arith) (omega arith)))
+
+    pub not-none-older : test ≡ 0 → (at ≡ 0 → ⊥) → with-older p w lot test (part.Whole c at) ≡ Cut
+    not-none-older e n = rw (e, not-ended (tested p (end-below 0 p 0)) at n)
+
+    pub older-by : (below : ℕ) → below ≡ end-below 0 p test → (v : Chain) → v ≡ chain-of (tested p below) (read-inspections first-record w lot test at)
+        → with-older p w lot test (part.Whole c at) ≡ with-newer c (if-undecided p v)
+    older-by below e v f = rw (f, e)
 
   -- the units of a whole chain are as many as its inspections
   pub whole-units : (test : List Inspection → Bool) (n at : ℕ) (c : Counts) → chain-of test (read-inspections first-record w lot n at) ≡ Whole c → units c ≡ n

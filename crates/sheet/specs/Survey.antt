@@ -12,6 +12,8 @@ use Rattle.plan.specs.Stopping.{earliest}
 use Rattle.sheet.specs.declared.record.Record.{Record}
 use Rattle.sheet.specs.declared.chain.Chain.{Chain}
 use Rattle.sheet.specs.declared.chain.Chain.the-variants as chain
+use Rattle.sheet.specs.declared.chain.Part.{Part}
+use Rattle.sheet.specs.declared.chain.Part.the-variants as part
 use Rattle.sheet.specs.declared.chain.FreeChain.{FreeChain}
 use Rattle.sheet.specs.declared.chain.FreeChain.the-variants as free
 use Rattle.sheet.specs.declared.survey.Found.{Found}
@@ -19,7 +21,7 @@ use Rattle.sheet.specs.declared.survey.Surveyed.{Surveyed}
 use Rattle.sheet.specs.declared.survey.Surveyed.the-variants as survey
 use Rattle.sheetmodel.specs.Layout.{word, field, records, next-unused, first-record, highest-class, free-tag, closed-lots, closed-units, most-closed}
 use Rattle.sheetmodel.specs.Contents.{Inspection, Lot, Contents, classes, history, records-of, find}
-use Rattle.sheetmodel.specs.Read.{in-use, undecided, all-undecided-before}
+use Rattle.sheetmodel.specs.Read.{in-use, read-inspections, undecided, all-undecided-before}
 use Rattle.sheetmodel.specs.Calls.{last-below}
 
 -- the words of a record
@@ -67,6 +69,30 @@ tested p test (i ∷ is) = may-go-on p test (length is) (counts (classes is)) &&
 abbrev pub chain-of : (List Inspection → Bool) → Option (List Inspection) → Chain
 chain-of test none = chain.Cut
 chain-of test (some is) = cond (test is) (chain.Whole (counts (classes is))) chain.Cut
+
+-- the units of older and of newer inspections
+abbrev pub all-units : Counts → Counts → Counts
+all-units c d = record { good = c .good + d .good; marginal = c .marginal + d .marginal; bad = c .bad + d .bad }
+
+-- a chain that is whole only if it is undecided
+abbrev pub if-undecided : List Stage → Chain → Chain
+if-undecided p chain.Cut = chain.Cut
+if-undecided p (chain.Whole c) = cond (undecided (earliest p c)) (chain.Whole c) chain.Cut
+
+-- a chain with newer inspections of the units d
+abbrev pub with-newer : Counts → Chain → Chain
+with-newer d chain.Cut = chain.Cut
+with-newer d (chain.Whole c) = chain.Whole (all-units c d)
+
+-- newer inspections, and the older ones after them, of which there are `test`: these are tested, and so are those at the stage ends below
+abbrev pub with-older : List Stage → List ℕ → ℕ → ℕ → Part → Chain
+with-older p w lot test part.Cut = chain.Cut
+with-older p w lot test (part.Whole c next) =
+    with-newer c (if-undecided p (chain-of (tested p (end-below 0 p test)) (read-inspections first-record w lot test next)))
+
+abbrev pub part-units : Part → Counts
+part-units part.Cut = no-units
+part-units (part.Whole c next) = c
 
 -- ---- the free records: as many as were read
 

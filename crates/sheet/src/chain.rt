@@ -4,24 +4,31 @@ use crate::layout::FIRST_FREE;
 use crate::layout::FIRST_RECORD;
 use crate::layout::FREE_TAG;
 use crate::layout::NEXT_UNUSED;
+use crate::progress::is_undecided;
 use crate::record::field_of;
 use crate::record::record_at;
-use plan::Answer;
 use plan::Counts;
 ghost use mathlib.Core.Path.{_≡_};
 ghost use mathlib.Core.Bool.{true};
-ghost use Prim.Native.Nat.{_≤_};
-ghost use Rattle.plan.specs.Plan.{stages, total, admitted};
+ghost use mathlib.Core.List.{List};
+ghost use Prim.Native.Nat.{_+_, _≤_, _<_};
+ghost use Rattle.plan.specs.Plan.{Stage, stages, total, admitted};
 ghost use Rattle.plan.specs.Counts.{units};
 ghost use Rattle.sheetmodel.specs.Layout.{first-record, first-free, word};
 ghost use Rattle.sheetmodel.specs.Read.{in-use, serial-at, depth, read-inspections, read-free, undecided-before};
 ghost use Rattle.sheetmodel.specs.Calls.{is-some};
-ghost use Rattle.sheet.specs.Survey.{Sized, is-inspection, is-free, may-go-on, next-test, tested, chain-of, free-of};
+ghost use Rattle.sheet.specs.Survey.{Sized, is-inspection, is-free, tested, chain-of, all-units, part-units, with-older, free-of};
 
 // A chain of inspections: damaged, or whole, with its units.
 pub enum Chain {
     Cut,
     Whole(Counts),
+}
+
+// The newer inspections of a chain: damaged, or whole, with their units and the record after them.
+pub enum Part {
+    Cut,
+    Whole(Counts, u32),
 }
 
 // The chain of free records: damaged, or whole, with their number.
@@ -59,57 +66,66 @@ fn is_inspection(sheet: &[u32], lot: u32, serial: u32, at: u32) -> bool
     r.d == serial
 }
 
-// Is a lot with the n units c undecided, if n is the number to be tested?
-fn may_go_on(plan: &[u32], test: u32, n: u32, c: Counts) -> bool
-    requires { ⌜ (total (stages (now plan)) ≤ 1000) × (units c ≤ 1000) ⌝ }
-    ensures { λ r. ⌜ r ≡ may-go-on (stages (now (plan .entry))) test n c ⌝ }
+// The units of older and of newer inspections.
+fn all_units(older: Counts, newer: Counts) -> Counts
+    requires { ⌜ units older + units newer ≤ 4294967295 ⌝ }
+    ensures { λ r. ⌜ r ≡ all-units older newer ⌝ }
 {
-    if n != test {
-        return true;
-    }
-    match plan::earliest(plan, c) {
-        Answer::GoOn => true,
-        Answer::Accept => false,
-        Answer::Reject => false,
+    Counts {
+        good: older.good + newer.good,
+        marginal: older.marginal + newer.marginal,
+        bad: older.bad + newer.bad,
     }
 }
 
-// The next number of units to be tested, below n: the last stage end, once n was tested.
-fn next_test(plan: &[u32], test: u32, n: u32) -> u32
-    requires { ⌜ total (stages (now plan)) ≤ 1000 ⌝ }
-    ensures { λ r. ⌜ r ≡ next-test (stages (now (plan .entry))) test n ⌝ }
+// The inspections of a lot from the record `at` on, whose serials fall from `serial` to `stop` + 1: the
+// units and the record after them. Whatever the plan, the `stop` older ones are then left to be tested.
+fn newer_part(sheet: &[u32], lot: u32, serial: u32, at: u32, stop: u32) -> Part
+    requires { ⌜ Sized (now sheet) × (serial ≤ 1000) × (stop < serial) ⌝ }
+    ensures { λ r. ⌜ units (part-units r) ≤ serial ⌝ }
+    ensures { λ r. ⌜ ((p : List Stage) → chain-of (tested p stop) (read-inspections first-record (now (sheet .entry)) lot serial at) ≡ with-older p (now (sheet .entry)) lot stop r) ⌝ }
 {
-    if n != test {
-        return test;
+    let mut left = serial;
+    let mut next = at;
+    let mut c = plan::no_units();
+    while stop < left {
+        if !is_inspection(sheet, lot, left, next) {
+            return Part::Cut;
+        }
+        let r = record_at(sheet, next);
+        c = plan::add_units(r.a, 1, c);
+        next = r.b;
+        left -= 1;
     }
-    plan::end_below(plan, 0, n)
+    Part::Whole(c, next)
 }
 
-// The inspections of a lot from the record `at` on, whose serials fall from `serial` to 1. The older
-// ones come first, so that the units before an inspection are counted when it is to be tested.
+// The inspections of a lot from the record `at` on, whose serials fall from `serial` to 1. The units of
+// the `test` oldest ones must be undecided, and those at each stage end below. They are counted before
+// they are tested, so the older ones come first: a call for each number tested, at most eight deep.
 fn inspections(sheet: &[u32], plan: &[u32], lot: u32, serial: u32, at: u32, test: u32) -> Chain
-    requires { ⌜ Sized (now sheet) × (total (stages (now plan)) ≤ 1000) × (serial ≤ 1000) ⌝ }
+    requires { ⌜ Sized (now sheet) × (admitted (now plan) ≡ true) × (serial ≤ 1000) × (test < serial) ⌝ }
     ensures { λ r. ⌜ r ≡ chain-of (tested (stages (now (plan .entry))) test) (read-inspections first-record (now (sheet .entry)) lot serial at) ⌝ }
 {
-    if serial == 0 {
-        if at == 0 {
-            return Chain::Whole(plan::no_units());
-        }
-        return Chain::Cut;
-    }
-    if !is_inspection(sheet, lot, serial, at) {
-        return Chain::Cut;
-    }
-    let r = record_at(sheet, at);
-    let older = serial - 1;
-    let below = next_test(plan, test, older);
-    match inspections(sheet, plan, lot, older, r.b, below) {
-        Chain::Cut => Chain::Cut,
-        Chain::Whole(c) => {
-            if !may_go_on(plan, test, older, c) {
+    match newer_part(sheet, lot, serial, at, test) {
+        Part::Cut => Chain::Cut,
+        Part::Whole(newer, next) => {
+            if test == 0 {
+                if next == 0 {
+                    return Chain::Whole(newer);
+                }
                 return Chain::Cut;
             }
-            Chain::Whole(plan::add_units(r.a, 1, c))
+            let below = plan::end_below(plan, 0, test);
+            match inspections(sheet, plan, lot, test, next, below) {
+                Chain::Cut => Chain::Cut,
+                Chain::Whole(older) => {
+                    if !is_undecided(plan::earliest(plan, older)) {
+                        return Chain::Cut;
+                    }
+                    Chain::Whole(all_units(older, newer))
+                }
+            }
         }
     }
 }

@@ -47,7 +47,7 @@ inspections-requires : tie.Need-inspections-requires
 inspections-requires c κs =
     let s = c .before .before .before .before .before .before .before .before in
     let h = shape (s .args .plan .now) (s .pre .1) .thousand-units in
-    (s .pre .0, h, omega (arith, s .pre .2))
+    (s .pre .0, s .pre .1, omega (arith, s .pre .2), omega arith)
 
 returns-5 : tie.Need-returns-5
 returns-5 c =
