@@ -1,5 +1,5 @@
 -- One step along a chain of inspections, as the code takes it. Assumes nothing.
-use Prim.Native.Nat.{ℕ, zero, suc, _-_, _<_}
+use Prim.Native.Nat.{ℕ, zero, suc, _+_, _-_, _/_, _%_, _≤_, _<_}
 use mathlib.Core.Path.{_≡_, refl, sym, ap, _∙_}
 use mathlib.Core.Bool.{Bool, true, false, cond, _&&_, and-false}
 use mathlib.Core.Option.{Option, none, some}
@@ -17,7 +17,7 @@ use Rattle.sheet.specs.declared.record.Record.{Record}
 use Rattle.sheet.specs.declared.chain.Chain.{Chain}
 use Rattle.sheet.specs.declared.chain.Chain.the-variants.{Cut, Whole}
 use Rattle.sheet.specs.declared.chain.Part.the-variants as part
-use Rattle.sheetmodel.specs.Layout.{field, next, first-record}
+use Rattle.sheetmodel.specs.Layout.{field, next, first-record, highest-class}
 use Rattle.sheetmodel.specs.Contents.{Inspection, classes}
 use Rattle.sheetmodel.specs.Read.{guard, then, read-inspections}
 use Rattle.sheet.specs.Survey.{record-at, is-inspection, may-go-on, next-test, tested, chain-of, all-units, if-undecided, with-newer, with-older}
@@ -51,6 +51,14 @@ one-more p test n i (some is) l = rw (l is refl) (go (tested p (next-test p test
     go true true e = rw (e, classes-counted i is)
     go true false e = rw e
     go false m e = rw (and-false m)
+
+-- a unit of a class up to 2, by arithmetic
+pub with-unit : (x : ℕ) (c : Counts) → x ≤ highest-class → _≡_ {A = Counts} (record { good = c .good + (2 - x) / 2; marginal = c .marginal + x % 2; bad = c .bad + x / 2 }) (add-units x 1 c)
+unfolding add-units
+with-unit zero c l = same-counts (omega arith) (omega arith) (omega arith)
+with-unit (suc zero) c l = same-counts (omega arith) (omega arith) (omega arith)
+with-unit (suc (suc zero)) c l = same-counts (omega arith) (omega arith) (omega arith)
+with-unit (suc (suc (suc x))) c l = absurd (omega arith)
 
 -- units move from the older to the newer ones
 moved : (x : ℕ) (c d : Counts) → all-units (add-units x 1 c) d ≡ all-units c (add-units x 1 d)

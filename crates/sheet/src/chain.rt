@@ -13,8 +13,8 @@ ghost use mathlib.Core.Bool.{true};
 ghost use mathlib.Core.List.{List};
 ghost use Prim.Native.Nat.{_+_, _≤_, _<_};
 ghost use Rattle.plan.specs.Plan.{Stage, stages, total, admitted};
-ghost use Rattle.plan.specs.Counts.{units};
-ghost use Rattle.sheetmodel.specs.Layout.{first-record, first-free, word};
+ghost use Rattle.plan.specs.Counts.{units, add-units};
+ghost use Rattle.sheetmodel.specs.Layout.{first-record, first-free, word, highest-class};
 ghost use Rattle.sheetmodel.specs.Read.{in-use, serial-at, depth, read-inspections, read-free, undecided-before};
 ghost use Rattle.sheetmodel.specs.Calls.{is-some};
 ghost use Rattle.sheet.specs.Survey.{Sized, is-inspection, is-free, tested, chain-of, all-units, part-units, with-older, free-of};
@@ -66,6 +66,19 @@ fn is_inspection(sheet: &[u32], lot: u32, serial: u32, at: u32) -> bool
     r.d == serial
 }
 
+// One unit more, of a class up to 2. Classes come in no order, so that a branch on them is often
+// predicted wrongly: here are none, unlike in plan::add_units.
+fn with_unit(class: u32, c: Counts) -> Counts
+    requires { ⌜ (class ≤ highest-class) × (units c ≤ 1000) ⌝ }
+    ensures { λ r. ⌜ r ≡ add-units class 1 c ⌝ }
+{
+    Counts {
+        good: c.good + (2 - class) / 2,
+        marginal: c.marginal + class % 2,
+        bad: c.bad + class / 2,
+    }
+}
+
 // The units of older and of newer inspections.
 fn all_units(older: Counts, newer: Counts) -> Counts
     requires { ⌜ units older + units newer ≤ 4294967295 ⌝ }
@@ -93,7 +106,7 @@ fn newer_part(sheet: &[u32], lot: u32, serial: u32, at: u32, stop: u32) -> Part
             return Part::Cut;
         }
         let r = record_at(sheet, next);
-        c = plan::add_units(r.a, 1, c);
+        c = with_unit(r.a, c);
         next = r.b;
         left -= 1;
     }

@@ -1,7 +1,7 @@
 -- `sheet::newer_part` meets its contract. The loop's invariant: the units so far, and what the inspections from `next` on give.
 -- Assumes nothing.
 use Prim.Native.Nat.{_+_, _≤_}
-use mathlib.Core.Path.{_≡_, sym, _∙_}
+use mathlib.Core.Path.{_≡_, sym, ap, _∙_}
 use mathlib.Core.List.{List}
 use native.Mathlib.Omega.{arith}
 use borrow.Author.Needs.{needs}
@@ -9,10 +9,11 @@ use borrow.Author.Tests.{not-true, not-false}
 use Rattle.plan.specs.Plan.{Stage}
 use Rattle.plan.specs.Counts.{units}
 use Rattle.plan.proofs.Promise.{counting}
+use Rattle.sheet.specs.declared.record.Record.{Record}
 use Rattle.sheetmodel.specs.Layout.{first-record}
 use Rattle.sheetmodel.specs.Read.{read-inspections}
 use Rattle.sheet.specs.Survey.{tested, chain-of, with-newer}
-use Rattle.sheet.proofs.Used.{inspection-within}
+use Rattle.sheet.proofs.Used.{inspection-within, inspection-class}
 use Rattle.sheet.proofs.ChainSteps.{rest, part-start, part-cut, part-step, part-done}
 use Rattle.sheet.proofs.chain.newer_part.Statement.{statement}
 use Rattle.sheet.proofs.chain.newer_part.Tie as tie
@@ -46,13 +47,20 @@ record-at-requires c κs =
     let l = c .before .before .before .loop in
     (inspection-within (s .args .sheet .now) (s .args .lot) (l .left) (l .next) (s .pre .0) (sym (c .before .is-inspection .ensures) ∙ not-false _ (c .if1 .left)), s .pre .0 .short)
 
+with-unit-requires : tie.Need-with-unit-requires Inv-loop μ-loop
+with-unit-requires c κs =
+    let a = c .before .before .before .before .before .before .before .args in
+    let l = c .before .before .before .before .loop in
+    let class = inspection-class (a .sheet .now) (a .lot) (l .left) (l .next) (sym (c .before .before .is-inspection .ensures) ∙ not-false _ (c .before .if1 .left)) in
+    (omega (arith, ap (λ (r : Record). r .a) (c .record-at .ensures)), omega arith)
+
 loop-again : tie.Need-loop-again Inv-loop μ-loop
 loop-again c =
     let a = c .before .before .before .before .before .before .before .before .args in
     let l = c .before .before .before .before .before .loop in
     let r = c .before .record-at in
     let taken = c .before .before .before .before .loop-test .taken in
-    rw (c .add-units .ensures) (
+    rw (c .with-unit .ensures) (
       omega arith,
       omega (arith, counting .added (r .result .a) 1 (l .c)),
       λ p. l .inv .2 p
@@ -76,7 +84,7 @@ newer-part-spec =
     (λ c κs. search needs)
     returns
     record-at-requires
-    (λ c κs. search needs)
+    with-unit-requires
     (λ c. omega arith)
     (λ c. omega arith)
     loop-again
