@@ -1,15 +1,15 @@
 -- Rounding at each unit, for steps with any weights: one division, and how far the two bounds come apart.
 -- Assumes nothing.
 use Prim.Native.Nat.{ℕ, zero, suc, _+_, _-_, _*_, _/_, _≤_, _<_}
-use mathlib.Core.Path.{_≡_, refl}
-use native.Mathlib.Nat.{div-zero, div-mul-le-self, div-lt-iff-lt-mul, lt-div-mul-add, add-mul, mul-add, mul-comm, mul-le-mul-left, mul-zero, div-eq-of-lt, zero-div, div-le-of-le-mul}
+use mathlib.Core.Path.{_≡_, refl, ap, _∙_}
+use native.Mathlib.Nat.{div-zero, div-mul-le-self, div-lt-iff-lt-mul, lt-div-mul-add, add-mul, mul-add, mul-comm, mul-le-mul-left, mul-zero, div-eq-of-lt, zero-div, div-le-of-le-mul, add-zero, mul-add-div, mul-div-cancel-left}
 use native.Mathlib.Omega.{arith}
 use Rattle.plan.specs.declared.counts.Counts.{Counts}
 use Rattle.plan.specs.declared.stage.Answer.{Answer}
 use Rattle.plan.specs.declared.stage.Answer.the-variants.{GoOn, Accept, Reject}
 use Rattle.plan.specs.Counts.{add-units}
 use Rattle.chance.specs.declared.mean.Weights.{Weights}
-use Rattle.chance.specs.Bounds.{weight-sum, weighted-sum, Rounding, down, up, rounded, Valuation, terminal, step, bound}
+use Rattle.chance.specs.Bounds.{weight-sum, weighted, weighted-sum, Rounding, down, up, rounded, Valuation, terminal, step, bound}
 use Rattle.chance.specs.Laws.{Width-law}
 
 div-below : (k x y : ℕ) → 0 < k → x < y * k → x / k < y
@@ -38,6 +38,17 @@ pub rounded-zero : (r : Rounding) (d : ℕ) → rounded r 0 d ≡ 0
 rounded-zero down d = zero-div d
 rounded-zero up zero = refl
 rounded-zero up (suc e) = div-eq-of-lt (omega arith)
+
+-- the mean of three equal values is that value
+sum-even : (w : Weights) (k : ℕ) → weighted w k k k ≡ weight-sum w * k
+sum-even w k = simp add-mul
+
+rounded-even : (r : Rounding) (d k : ℕ) → 0 < d → rounded r (d * k) d ≡ k
+rounded-even down d k h = mul-div-cancel-left k h
+rounded-even up d k h = mul-add-div h k (d - 1) ∙ ap (λ (n : ℕ). k + n) (div-eq-of-lt (omega arith)) ∙ add-zero k
+
+pub mean-even : (r : Rounding) (w : Weights) (k : ℕ) → 0 < weight-sum w → rounded r (weighted w k k k) (weight-sum w) ≡ k
+mean-even r w k h = ap (λ (n : ℕ). rounded r n (weight-sum w)) (sum-even w k) ∙ rounded-even r (weight-sum w) k h
 
 -- values that are at most n above others have a weighted sum at most W·n above theirs
 pub weighted-le : (w : Weights) (f g : ℕ → ℕ) (n : ℕ) → ((x : ℕ) → x ≤ 2 → f x ≤ g x + n) → weighted-sum w f ≤ weighted-sum w g + weight-sum w * n

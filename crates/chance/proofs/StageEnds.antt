@@ -8,7 +8,7 @@ use mathlib.Core.Bool.{Bool, true, false}
 use mathlib.Core.List.{List}
 use lib.Dec.{eqb}
 use borrow.Author.Tests.{eqb-false}
-use native.Mathlib.Nat.{add-mul, zero-add, add-zero, mul-add-div, mul-div-cancel-left, div-eq-of-lt, eq-or-lt-of-le}
+use native.Mathlib.Nat.{zero-add, eq-or-lt-of-le}
 use native.Mathlib.Omega.{arith}
 use Rattle.plan.specs.declared.counts.Counts.{Counts}
 use Rattle.plan.specs.declared.stage.Answer.{Answer}
@@ -19,23 +19,13 @@ use Rattle.plan.specs.Counts.{units, add-units}
 use Rattle.plan.specs.Stopping.{staged, earliest}
 use Rattle.plan.specs.Promise.{Promise}
 use Rattle.plan.proofs.Promise.{promise}
-use Rattle.chance.specs.declared.mean.Weights.{Weights}
 use Rattle.chance.specs.declared.layer.Setting.{Setting}
-use Rattle.chance.specs.Bounds.{weight-sum, weighted, Rounding, down, up, rounded, Valuation, step, bound}
+use Rattle.chance.specs.Bounds.{weight-sum, Rounding, Valuation, step, bound}
 use Rattle.chance.specs.Layer.{setting-value, stage-value, at, May-end}
+use Rattle.chance.proofs.Rounding.{mean-even}
 use Rattle.chance.proofs.States.{accepted-step, rejected-step, step-agree}
 
--- ---- the mean of three equal values
-
-sum-even : (w : Weights) (k : ℕ) → weighted w k k k ≡ weight-sum w * k
-sum-even w k = simp add-mul
-
-rounded-even : (r : Rounding) (d k : ℕ) → 0 < d → rounded r (d * k) d ≡ k
-rounded-even down d k h = mul-div-cancel-left k h
-rounded-even up d k h = mul-add-div h k (d - 1) ∙ ap (λ (n : ℕ). k + n) (div-eq-of-lt (omega arith)) ∙ add-zero k
-
-mean-even : (r : Rounding) (w : Weights) (k : ℕ) → 0 < weight-sum w → rounded r (weighted w k k k) (weight-sum w) ≡ k
-mean-even r w k h = ap (λ (n : ℕ). rounded r n (weight-sum w)) (sum-even w k) ∙ rounded-even r (weight-sum w) k h
+-- ---- a step from three equal values
 
 even-step : (r : Rounding) (v : Valuation) (next : Counts → ℕ) (c : Counts) (k : ℕ) → v .decision c ≡ GoOn → v .cost ≡ 0
     → 0 < weight-sum (v .weights c) → ((x : ℕ) → next (add-units x 1 c) ≡ k) → step r v next c ≡ k

@@ -19,6 +19,12 @@ pub fn mean(w: Weights, up: bool, good: u64, marginal: u64, bad: u64) -> u64
     ensures { λ r. ⌜ r ≡ rounded (rounding up) (weighted w good marginal bad) (weight-sum w) ⌝ }
     ensures { λ r. ⌜ r ≤ scale ⌝ }
 {
+    // Around a decided state all three are one value, and need no division.
+    if good == marginal {
+        if marginal == bad {
+            return good;
+        }
+    }
     let total = w.good + w.marginal + w.bad;
     let sum = w.good * good + w.marginal * marginal + w.bad * bad;
     if up {

@@ -17,7 +17,7 @@ use Rattle.plan.specs.declared.stage.Answer.the-variants.{GoOn, Accept, 
 use Rattle.plan.specs.declared.ways.StageWay.the-variants.{Uncurtailed}
 use Rattle.plan.specs.Plan.{Stage, total, End, apart}
 use Rattle.plan.specs.Counts.{units, add-units}
-use Rattle.plan.specs.Stopping.{or-else, at-end, uncurtailed-at, current, staged, first-answer, at-filled, completed, settled, earliest}
+use Rattle.plan.specs.Stopping.{or-else, at-end, uncurtailed-at, current, staged, at-filled, completed, settled, earliest}
 use Rattle.plan.specs.Promise.{rank, Worse}
 use Rattle.plan.proofs.Bools.{and-right}
 use Rattle.plan.proofs.Order.{top, bottom, at-end-mono, accepts-worst, rejects-best}
