@@ -10,9 +10,6 @@
  * and not null, also where the number is 0, and what a call writes to overlaps
  * nothing else that it takes. Nothing else is required of the caller: any words
  * on a sheet, in a plan or in a list get an answer.
- *
- * A call on a sheet takes up to 200 KB of stack: about 192 bytes for each of a
- * lot's inspections, which are at most 1,000.
  */
 #ifndef HAQOTHWE_H
 #define HAQOTHWE_H
