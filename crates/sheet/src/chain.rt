@@ -123,6 +123,7 @@ fn inspections(sheet: &[u32], plan: &[u32], lot: u32, serial: u32, at: u32, test
     match newer_part(sheet, lot, serial, at, test) {
         Part::Cut => Chain::Cut,
         Part::Whole(newer, next) => {
+            // before the first unit every lot is undecided
             if test == 0 {
                 if next == 0 {
                     return Chain::Whole(newer);
