@@ -5,11 +5,12 @@ use native.Mathlib.Numerals.{add-one}
 use mathlib.Core.Path.{_≡_, refl, ap, sym, _∙_}
 use mathlib.Core.Logic.{_≢_}
 use native.Mathlib.Decide.{decLt}
-use mathlib.Core.Bool.{true, false}
+use mathlib.Core.Bool.{Bool, true, false, _&&_}
 use mathlib.Core.List.{List, [], _∷_}
 use lib.ListN.{length, getD, drop}
 use lib.Seq.{drop-cons}
-use borrow.Author.Tests.{le-leb, lt-leb}
+use lib.Dec.{leb}
+use borrow.Author.Tests.{leb-true, le-leb}
 use Rattle.plan.specs.declared.counts.Counts.{Counts}
 use Rattle.plan.specs.declared.stage.Answer.{Answer}
 use Rattle.plan.specs.declared.stage.Answer.the-variants.{GoOn, Accept, Reject}
@@ -52,8 +53,22 @@ stop-within w e way c (x ∷ xs) = go (answer way (stages w) (add-units x 1 c)) 
     go Accept f later = here Accept f (λ g. let z : _≡_ {A = ℕ} 0 1 = cc in omega arith) (decLt _ _)
     go Reject f later = here Reject f (λ g. let z : _≡_ {A = ℕ} 0 1 = cc in omega arith) (decLt _ _)
 
-pub class-fails : (xs : List ℕ) (i : ℕ) → i < length xs → 2 < getD xs i 0 → are-classes (drop i xs) ≡ false
-class-fails xs i h l = rw (next xs i h, lt-leb _ _ l)
+-- ---- the greatest class so far, and the classes from i on
 
-pub class-holds : (xs : List ℕ) (i : ℕ) → i < length xs → getD xs i 0 ≤ 2 → are-classes (drop i xs) ≡ are-classes (drop (i + 1) xs)
-class-holds xs i h l = rw (next xs i h, le-leb _ _ l)
+-- what follows from another test adds nothing to it
+first-adds-none : (a b r : Bool) → (b ≡ true → a ≡ true) → (a && (b && r)) ≡ (b && r)
+first-adds-none true b r f = refl
+first-adds-none false true r f = cc (f refl)
+first-adds-none false false r f = refl
+
+second-adds-none : (a b r : Bool) → (a ≡ true → b ≡ true) → (a && (b && r)) ≡ (a && r)
+second-adds-none true true r f = refl
+second-adds-none true false r f = cc (f refl)
+second-adds-none false b r f = refl
+
+module _ (xs : List ℕ) (i m : ℕ) (h : i < length xs) where
+  pub class-greater : m < getD xs i 0 → (leb m 2 && are-classes (drop i xs)) ≡ (leb (getD xs i 0) 2 && are-classes (drop (i + 1) xs))
+  class-greater l = rw (next xs i h) (first-adds-none (leb m 2) (leb (getD xs i 0) 2) _ (λ e. le-leb m 2 (omega (arith, leb-true (getD xs i 0) 2 e))))
+
+  pub class-no-greater : getD xs i 0 ≤ m → (leb m 2 && are-classes (drop i xs)) ≡ (leb m 2 && are-classes (drop (i + 1) xs))
+  class-no-greater l = rw (next xs i h) (second-adds-none (leb m 2) (leb (getD xs i 0) 2) _ (λ e. le-leb (getD xs i 0) 2 (omega (arith, leb-true m 2 e))))
