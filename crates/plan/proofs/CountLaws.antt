@@ -43,7 +43,7 @@ module _ (n : ℕ) (c d : Counts) (m : More n c d) where
       (λ l. rw (end-due 0 d end s (same l))
       (at-end-mono s (add-units 0 (end - units c) c) (add-units 0 (end - units d) d) (rw (add-good, add-good) (omega arith))))
 
-  undecided-sooner : (p : List Stage) → Each (λ end s. Same end) 0 p → earliest p d ≡ GoOn → earliest p c ≡ GoOn
+  pub undecided-sooner : (p : List Stage) → Each (λ end s. Same end) 0 p → earliest p d ≡ GoOn → earliest p c ≡ GoOn
   unfolding earliest
   undecided-sooner p same e =
       let r = undecided-ranks (completed 2 0 p d) (completed 0 0 p d) e in
@@ -51,9 +51,9 @@ module _ (n : ℕ) (c d : Counts) (m : More n c d) where
       (omega (arith, first-mono (λ end s. Same end) (at-filled 2 c) (at-filled 2 d) worse-sooner 0 p same))
       (omega (arith, first-mono (λ end s. Same end) (at-filled 0 d) (at-filled 0 c) better-sooner 0 p same))
 
-pub within-stage : (p : List Stage) (h : List ℕ) (z : ℕ) → z ≤ length h → Same-stage p z (length h)
+pub undecided-within : (p : List Stage) (h : List ℕ) (z : ℕ) → z ≤ length h → Same-stage p z (length h)
     → earliest p (counts h) ≡ GoOn → earliest p (counts (take z h)) ≡ GoOn
-within-stage p h z l same =
+undecided-within p h z l same =
     let n = units-taken h z l in
     undecided-sooner (length h - z) (counts (take z h)) (counts h) (rw (take-all (length h) h (omega arith)) at (more-taken h z (length h) l (omega arith))) p
     (each-end (λ end. units (counts (take z h)) ≤ end → units (counts h) ≤ end) 0 p (λ e m k. omega (arith, same e m (omega arith), units-counts h)))

@@ -1,4 +1,4 @@
--- `completed`, `current` and `end-below` at the first stage of a run of words. Assumes nothing.
+-- `completed`, `current`, `end-below` and `end-from` at the first stage of a run of words. Assumes nothing.
 use Prim.Native.Nat.{ℕ, _+_, _≤_, _<_}
 use mathlib.Core.Path.{_≡_}
 use mathlib.Core.List.{List}
@@ -8,7 +8,7 @@ use Rattle.plan.specs.declared.counts.Counts.{Counts}
 use Rattle.plan.specs.declared.stage.Answer.{Answer}
 use Rattle.plan.specs.declared.stage.Answer.the-variants.{GoOn}
 use Rattle.plan.specs.declared.ways.StageWay.{StageWay}
-use Rattle.plan.specs.Plan.{stages, first, end-below}
+use Rattle.plan.specs.Plan.{stages, first, end-below, end-from}
 use Rattle.plan.specs.Counts.{units}
 use Rattle.plan.specs.Stopping.{completed, at-filled, or-else, at-stage, current}
 use Rattle.plan.proofs.Ends.{current-here, current-later}
@@ -47,3 +47,15 @@ module _ (w : List ℕ) (before y : ℕ) where
   pub end-rest : 5 ≤ length w → before + first w .size < y → end-below before (stages w) y ≡ end-below (before + first w .size) (stages (after w)) y
   unfolding end-below
   end-rest h l = rw (stages-more w h, lt-ltb (before + first w .size) y l)
+
+  pub from-none : length w < 5 → end-from before (stages w) y ≡ before
+  unfolding end-from
+  from-none h = rw (stages-none w h)
+
+  pub from-first : 5 ≤ length w → y ≤ before + first w .size → end-from before (stages w) y ≡ before + first w .size
+  unfolding end-from
+  from-first h l = rw (stages-more w h, le-ltb (before + first w .size) y l)
+
+  pub from-rest : 5 ≤ length w → before + first w .size < y → end-from before (stages w) y ≡ end-from (before + first w .size) (stages (after w)) y
+  unfolding end-from
+  from-rest h l = rw (stages-more w h, lt-ltb (before + first w .size) y l)

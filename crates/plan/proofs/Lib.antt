@@ -19,6 +19,7 @@ mod CountLaws
 mod StageEnds
 mod Uncurtailed
 mod StageWays
+mod WithinStage
 mod Compared
 mod OneStage
 mod UnitMore

@@ -105,13 +105,13 @@ settled-past Reject a b e = (e, cc)
 -- ---- at a stage's end
 
 -- one Boolean implies another
-or-mono : (a b c d : Bool) → (a ≡ true → c ≡ true) → (b ≡ true → d ≡ true) → a || b ≡ true → c || d ≡ true
+pub or-mono : (a b c d : Bool) → (a ≡ true → c ≡ true) → (b ≡ true → d ≡ true) → a || b ≡ true → c || d ≡ true
 or-mono true b true d f g e = refl
 or-mono true b false d f g e = cc (f refl)
 or-mono false b true d f g e = refl
 or-mono false b false d f g e = g e
 
-and-mono : (a b c d : Bool) → (a ≡ true → c ≡ true) → (b ≡ true → d ≡ true) → a && b ≡ true → c && d ≡ true
+pub and-mono : (a b c d : Bool) → (a ≡ true → c ≡ true) → (b ≡ true → d ≡ true) → a && b ≡ true → c && d ≡ true
 and-mono true b true d f g e = g e
 and-mono true b false d f g e = f refl
 and-mono false b c d f g e = cc
@@ -125,7 +125,7 @@ cond-mono false true false false f g = absurd (let z : _≡_ {A = ℕ} 0 1 = cc 
 cond-mono false false false true f g = omega arith
 cond-mono false false false false f g = omega arith
 
-leb-mono : (a b c d : ℕ) → (a ≤ b → c ≤ d) → leb a b ≡ true → leb c d ≡ true
+pub leb-mono : (a b c d : ℕ) → (a ≤ b → c ≤ d) → leb a b ≡ true → leb c d ≡ true
 leb-mono a b c d f e = le-leb c d (f (leb-true a b e))
 
 -- c has no more bad units and no more nongood ones

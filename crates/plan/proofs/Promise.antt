@@ -20,6 +20,7 @@ use Rattle.plan.proofs.CountLaws as laws
 use Rattle.plan.proofs.StageEnds as ends
 use Rattle.plan.proofs.Uncurtailed.{uncurtailed-stop}
 use Rattle.plan.proofs.StageWays.{sound}
+use Rattle.plan.proofs.WithinStage.{within-stage}
 use Rattle.plan.proofs.Compared.{staged-later, same-rejection}
 use Rattle.plan.proofs.UnitMore as unit-more
 use Rattle.plan.proofs.OneStage.{one-stage as one-stage-of, one-stage-words}
@@ -48,9 +49,10 @@ promise w e =
       same-rejection = same-rejection (stages w) l;
       one-stage = one-stage-of (stages w) l;
       past = laws.past (stages w);
-      within-stage = laws.within-stage (stages w);
+      within-stage = within-stage (stages w);
       by-ends = ends.by-ends (stages w);
       end-below-is = ends.end-below-is (stages w);
+      end-from-is = ends.end-from-is (stages w);
       no-better = laws.no-better (stages w);
       rejects = laws.rejects (stages w) l;
       at-ends = unit-more.at-ends (stages w);

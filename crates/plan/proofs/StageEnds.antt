@@ -1,4 +1,4 @@
--- The ends of a plan's stages: the last one below a number of units, and what they say of a history.
+-- The ends of a plan's stages: the last one below a number of units, the first one from it on, and what they say of a history.
 -- Assumes nothing.
 use Prim.Native.Nat.{ℕ, _+_, _-_, _≤_, _<_}
 use mathlib.Core.Path.{_≡_, refl}
@@ -12,11 +12,11 @@ use lib.Seq.{length-take-le, take-take}
 use lib.Dec.{ltb}
 use borrow.Author.Tests.{lt-ltb, le-ltb}
 use Rattle.plan.specs.declared.stage.Answer.the-variants.{GoOn}
-use Rattle.plan.specs.Plan.{Stage, End, end-below}
+use Rattle.plan.specs.Plan.{Stage, total, End, end-below, end-from}
 use Rattle.plan.specs.Counts.{counts}
 use Rattle.plan.specs.Stopping.{earliest}
 use Rattle.plan.specs.Promise.{Same-stage}
-use Rattle.plan.proofs.CountLaws.{within-stage}
+use Rattle.plan.proofs.CountLaws.{undecided-within}
 
 -- ---- the last end below y
 
@@ -87,6 +87,22 @@ next-end before (s ∷ rest) y = go (decLt (before + s .size) y) (next-end (befo
       first = λ e m l. ⊎-elim (λ h. absurd (omega arith)) (λ n. t .first e n l) m;
     })
 
+module _ (y : ℕ) where
+  first-from : (before : ℕ) (p : List Stage) → y ≤ before + total p
+      → (y ≤ end-from before p y) × ((e : ℕ) → End before p e → y ≤ e → end-from before p y ≤ e)
+  unfolding End total end-from
+  first-from before [] l = (omega arith, λ e m k. absurd m)
+  first-from before (s ∷ rest) l = go (decLt (before + s .size) y) (first-from (before + s .size) rest (omega arith))
+    where
+      go : Dec (before + s .size < y)
+          → (y ≤ end-from (before + s .size) rest y) × ((e : ℕ) → End (before + s .size) rest e → y ≤ e → end-from (before + s .size) rest y ≤ e)
+          → (y ≤ end-from before (s ∷ rest) y) × ((e : ℕ) → End before (s ∷ rest) e → y ≤ e → end-from before (s ∷ rest) y ≤ e)
+      go (yes k) t = rw (lt-ltb (before + s .size) y k) (t .0, λ e m q. ⊎-elim (λ h. absurd (omega arith)) (λ n. t .1 e n q) m)
+      go (no k) t = rw (le-ltb (before + s .size) y (omega arith)) (omega arith, λ e m q. ⊎-elim (λ h. omega arith) (λ n. later (before + s .size) rest e n) m)
+
+pub end-from-is : (p : List Stage) (y : ℕ) → y ≤ total p → (y ≤ end-from 0 p y) × ((e : ℕ) → End 0 p e → y ≤ e → end-from 0 p y ≤ e)
+end-from-is p y l = first-from y 0 p (omega arith)
+
 -- ---- undecided at the ends, and before the last unit
 
 module _ (p : List Stage) (h : List ℕ) where
@@ -94,7 +110,7 @@ module _ (p : List Stage) (h : List ℕ) where
   undecided-to : (y n : ℕ) → y ≤ n → n ≤ length h → Same-stage p y n → earliest p (counts (take n h)) ≡ GoOn → earliest p (counts (take y h)) ≡ GoOn
   undecided-to y n l w same e =
       let u : length (take n h) ≡ n = length-take-le n h w in
-      rw (take-take y n h l) at (within-stage p (take n h) y (omega arith) (λ z m k. omega (arith, same z m k)) e)
+      rw (take-take y n h l) at (undecided-within p (take n h) y (omega arith) (λ z m k. omega (arith, same z m k)) e)
 
   pub by-ends : ((e : ℕ) → End 0 p e → e < length h → earliest p (counts (take e h)) ≡ GoOn)
       → earliest p (counts (take (length h - 1) h)) ≡ GoOn → (y : ℕ) → y < length h → earliest p (counts (take y h)) ≡ GoOn

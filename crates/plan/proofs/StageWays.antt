@@ -54,7 +54,7 @@ module _ (s : Stage) where
         let n : end - c .good ≤ s .accept1 = leb-true _ _ (and-right (leb (end - nonbad c) (s .accept2)) _ e) in
         accepted d (omega arith) (omega arith)
 
-  end-same : (c d : Counts) → d .bad ≡ c .bad → nongood d ≡ nongood c → at-end s d ≡ at-end s c
+  pub end-same : (c d : Counts) → d .bad ≡ c .bad → nongood d ≡ nongood c → at-end s d ≡ at-end s c
   end-same c d e f =
       ap₂ (λ (b n : ℕ). cond (leb (s .reject2) b || leb (s .reject1) n) Reject (cond (leb b (s .accept2) && leb n (s .accept1)) Accept GoOn)) e f
 

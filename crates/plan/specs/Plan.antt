@@ -43,6 +43,11 @@ unfoldable pub end-below : ℕ → List Stage → ℕ → ℕ
 end-below before [] y = before
 end-below before (s ∷ rest) y = cond (ltb (before + s .size) y) (end-below (before + s .size) rest y) before
 
+-- the first of them from y on, or the last where there is none
+unfoldable pub end-from : ℕ → List Stage → ℕ → ℕ
+end-from before [] y = before
+end-from before (s ∷ rest) y = cond (ltb (before + s .size) y) (end-from (before + s .size) rest y) (before + s .size)
+
 -- ---- the rules. A row of numbers is a function of the stage
 
 abbrev pub each : (Stage → Bool) → List Stage → Bool

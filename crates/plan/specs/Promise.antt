@@ -13,8 +13,8 @@ use Rattle.plan.specs.declared.stage.Answer.the-variants.{GoOn, Accept, 
 use Rattle.plan.specs.declared.ways.StageWay.{StageWay}
 use Rattle.plan.specs.declared.ways.StageWay.the-variants.{Uncurtailed, Semi, Full}
 use Rattle.plan.specs.declared.ways.Way.{Way}
-use Rattle.plan.specs.Plan.{Stage, stages, first, total, End, end-below, last-reject1, last-reject2}
-use Rattle.plan.specs.Counts.{units, nongood, nonbad, no-units, add-units, counts}
+use Rattle.plan.specs.Plan.{Stage, stages, first, total, End, end-below, end-from, last-reject1, last-reject2}
+use Rattle.plan.specs.Counts.{units, nongood, nonbad, no-units, add-units, counts-after, counts}
 use Rattle.plan.specs.Stopping.{accepts, full-at, staged, earliest, answer}
 use Rattle.plan.specs.Sample.{Classes, Completion, All-have, Rule, Stops, Faithful}
 
@@ -107,13 +107,16 @@ pub record Promise (p : List Stage) : Type 0 where
   pub one-stage : length p ≡ 1 → (c : Counts) → staged Full p c ≡ earliest p c
   -- after S units no way stops
   pub past : (way : Way) (c : Counts) → total p < units c → answer way p c ≡ GoOn
-  -- within a stage, what comes before an undecided history is undecided
-  pub within-stage : (h : List ℕ) (z : ℕ) → z ≤ length h → Same-stage p z (length h) → earliest p (counts h) ≡ GoOn → earliest p (counts (take z h)) ≡ GoOn
+  -- within a stage, a way that goes on after some classes did so before them
+  pub within-stage : (way : Way) (c : Counts) (xs : List ℕ) → Same-stage p (units c) (units c + length xs)
+      → answer way p (counts-after c xs) ≡ GoOn → answer way p c ≡ GoOn
   -- so a history is undecided before its last unit if it is so there and at each stage's end
   pub by-ends : (h : List ℕ) → ((e : ℕ) → End 0 p e → e < length h → earliest p (counts (take e h)) ≡ GoOn)
       → earliest p (counts (take (length h - 1) h)) ≡ GoOn → (y : ℕ) → y < length h → earliest p (counts (take y h)) ≡ GoOn
   -- the last stage end below y
   pub end-below-is : (y : ℕ) → 1 ≤ y → (end-below 0 p y < y) × ((e : ℕ) → End 0 p e → e < y → e ≤ end-below 0 p y)
+  -- the first stage end from y on
+  pub end-from-is : (y : ℕ) → y ≤ total p → (y ≤ end-from 0 p y) × ((e : ℕ) → End 0 p e → y ≤ e → end-from 0 p y ≤ e)
   -- as many units, none of them better, are answered no better
   pub no-better : (c d : Counts) → Worse c d → rank (earliest p d) ≤ rank (earliest p c)
   -- as many nongood or bad units as the last rejection number are rejected

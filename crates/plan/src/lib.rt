@@ -14,6 +14,7 @@ pub use counts::Counts;
 pub use counts::add_units;
 pub use counts::no_units;
 pub use size::end_below;
+pub use size::end_from;
 pub use size::sample_size;
 pub use stage::Answer;
 pub use stage::state;
