@@ -1,4 +1,4 @@
--- One turn along a list of classes, and where no way stops any more. Assumes nothing.
+-- One turn along a list of classes, where no way stops any more, and the greatest class. Assumes nothing.
 use Prim.Native.Nat.{ℕ, _+_, _≤_, _<_}
 use native.Mathlib.Omega.{arith}
 use native.Mathlib.Numerals.{add-one}
@@ -21,7 +21,7 @@ use Rattle.plan.specs.Stopping.{answer}
 use Rattle.plan.proofs.Promise.{promise, counting}
 use Rattle.judge.specs.Judge.{no-stop, stop-here, first-stop, are-classes}
 
-next : (xs : List ℕ) (i : ℕ) → i < length xs → drop i xs ≡ getD xs i 0 ∷ drop (i + 1) xs
+pub next : (xs : List ℕ) (i : ℕ) → i < length xs → drop i xs ≡ getD xs i 0 ∷ drop (i + 1) xs
 next xs i h = drop-cons xs i 0 h ∙ ap (λ (j : ℕ). getD xs i 0 ∷ drop j xs) (sym (add-one i))
 
 -- the class at i, the counts d with it, and the answer a to them

@@ -1,5 +1,6 @@
 -- What the proofs of several functions use, and the laws of judging (Laws).
 mod Along
+mod Runs
 mod Least
 mod Events
 mod FullStop

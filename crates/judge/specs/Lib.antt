@@ -1,3 +1,4 @@
 pub mod Event
 pub mod Judge
+pub mod Run
 pub mod Laws

@@ -2,6 +2,7 @@
 // estimates".
 mod event;
 mod list;
+mod run;
 mod stop;
 
 pub use list::Judged;

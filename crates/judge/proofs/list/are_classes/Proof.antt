@@ -1,7 +1,7 @@
 -- `judge::are_classes` meets its contract. The loop's invariant: the greatest class so far and the classes from i on decide.
 -- Assumes nothing.
 use Prim.Native.Nat.{_-_, _≤_}
-use mathlib.Core.Path.{_≡_, ap, sym, _∙_}
+use mathlib.Core.Path.{_≡_, sym, _∙_}
 use mathlib.Core.Logic.{⊎-elim}
 use mathlib.Core.Bool.{_&&_, and-true}
 use lib.ListN.{length, drop, drop-of-length-le}
