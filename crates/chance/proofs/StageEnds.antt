@@ -1,7 +1,7 @@
 -- The values of a layer where stage ends alone decide: by the plan's promises they are those of the earliest stop. Where the
 -- earliest stop has decided and no end does, it has decided alike one unit on, and the mean of three equal values is that value.
 -- Assumes nothing.
-use Prim.Native.Nat.{ℕ, zero, suc, _+_, _-_, _*_, _≤_, _<_}
+use Prim.Native.Nat.{ℕ, zero, suc, _+_, _-_, _≤_, _<_}
 use mathlib.Core.Path.{_≡_, refl, sym, ap, subst, _∙_}
 use mathlib.Core.Logic.{_≢_, ⊎-elim}
 use mathlib.Core.Bool.{Bool, true, false}

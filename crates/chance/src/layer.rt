@@ -71,8 +71,8 @@ fn answer_at(plan: &[u32], y: usize, g: usize, b: usize) -> Answer
     plan::answer(plan, Way::Staged(StageWay::Uncurtailed), c)
 }
 
-// The value of y units of which g are nongood and b bad. Only where a stage ends can the plan decide:
-// a state that is decided between two ends has three decided values one unit on, and they are its mean.
+// The value of y units of which g are nongood and b bad. The plan is asked where a stage ends:
+// elsewhere a decided state is decided alike after any unit more, so its three values are its own.
 fn state_value(
     plan: &[u32],
     row: &[u64],
