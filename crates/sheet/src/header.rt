@@ -1,6 +1,7 @@
 // The header of a sheet: is it that of an intact one? Document 01, "Sheet".
 use crate::layout::ACCEPTED_LOTS;
 use crate::layout::BAD_UNITS;
+use crate::layout::FIRST_RECORD;
 use crate::layout::GOOD_UNITS;
 use crate::layout::MARGINAL_UNITS;
 use crate::layout::MOST_CLOSED;
@@ -57,7 +58,7 @@ pub fn is_header(sheet: &[u32]) -> bool
         return false;
     }
     let unused = sheet[NEXT_UNUSED] as usize;
-    if unused < 11 {
+    if unused < FIRST_RECORD as usize {
         return false;
     }
     if sheet.len() / 4 < unused {

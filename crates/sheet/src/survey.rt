@@ -6,6 +6,7 @@ use crate::chain::is_used;
 use crate::chain::lot_inspections;
 use crate::header::is_header;
 use crate::layout::FIRST_LOT;
+use crate::layout::FIRST_RECORD;
 use crate::layout::NEXT_UNUSED;
 use crate::layout::PLAN_START;
 use crate::layout::STAGE_COUNT;
@@ -117,7 +118,7 @@ fn are_counted(sheet: &[u32], used: u32, free: u32) -> bool
     requires { ⌜ 48 ≤ length (now sheet) ⌝ }
     ensures { λ r. ⌜ r ≡ eqb (first-record + (used + free)) (word (now (sheet .entry)) next-unused) ⌝ }
 {
-    11 + (used as u64 + free as u64) == sheet[NEXT_UNUSED] as u64
+    FIRST_RECORD as u64 + (used as u64 + free as u64) == sheet[NEXT_UNUSED] as u64
 }
 
 // The survey of a sheet for the lot number that is sought.

@@ -79,6 +79,7 @@ is-header-spec =
     returns-3
     (λ c. search needs)
     (λ c. omega (arith, c .shared-slice-known3 .given 0))
+    (λ c. search needs)
     returns-4
     returns-5
     (λ c κs. search needs)

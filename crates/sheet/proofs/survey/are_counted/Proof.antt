@@ -11,5 +11,6 @@ are-counted-spec =
     (λ c. search needs)
     (λ c. search needs)
     (λ c. search needs)
+    (λ c. search needs)
     (λ c. omega (arith, c .shared-slice-known .given 0))
     (λ c. search needs))
