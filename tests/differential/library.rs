@@ -1,4 +1,6 @@
-//! The functions of libexport.a, called on lent runs that show each write.
+//! The functions of libexport.a, called on lent runs that show each write. They
+//! are declared here with plain pointers, since `out` has margins too; the
+//! declarations of bindings/rust are run by its example.
 
 use crate::sheet_call::SheetCall;
 

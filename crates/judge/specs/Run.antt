@@ -6,8 +6,8 @@ use mathlib.Core.List.{List}
 use Rattle.plan.specs.Plan.{Stage}
 use Rattle.plan.specs.Promise.{Same-stage}
 
--- r is the smaller of a and b
-pub record Smaller (a b r : ℕ) : Type 0 where
+-- r is the lesser of a and b
+pub record Minimum (a b r : ℕ) : Type 0 where
   pub first : r ≤ a
   pub second : r ≤ b
   pub one : (r ≡ a) ⊎ (r ≡ b)

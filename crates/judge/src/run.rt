@@ -7,13 +7,13 @@ ghost use Prim.Native.Nat.{_+_, _≤_, _<_};
 ghost use lib.ListN.{length};
 ghost use Rattle.plan.specs.Plan.{stages, total, admitted};
 ghost use Rattle.plan.specs.Counts.{units, counts-after};
-ghost use Rattle.judge.specs.Run.{Smaller, Run-end};
+ghost use Rattle.judge.specs.Run.{Minimum, Run-end};
 
 // A run's classes at most: they are read once more, one by one, where a way stops among them.
 const LONGEST: usize = 32;
 
-pub fn smaller(a: usize, b: usize) -> usize
-    ensures { λ r. ⌜ Smaller a b r ⌝ }
+pub fn minimum(a: usize, b: usize) -> usize
+    ensures { λ r. ⌜ Minimum a b r ⌝ }
 {
     if a < b {
         return a;
@@ -27,7 +27,7 @@ pub fn run_end(plan: &[u32], i: usize, last: usize) -> usize
     ensures { λ r. ⌜ Run-end (stages (now (plan .entry))) i last r ⌝ }
 {
     let end = plan::end_from(plan, 0, i as u32 + 1) as usize;
-    smaller(smaller(i + LONGEST, end), last)
+    minimum(minimum(i + LONGEST, end), last)
 }
 
 // The counts with a run's classes.

@@ -1,7 +1,7 @@
 // Where a way stops along a list of classes.
 use crate::run::count_run;
+use crate::run::minimum;
 use crate::run::run_end;
-use crate::run::smaller;
 use plan::Answer;
 use plan::Counts;
 use plan::Way;
@@ -64,7 +64,7 @@ pub fn first_stop(plan: &[u32], way: Way, list: &[u8]) -> Stop
     requires { ⌜ admitted (now plan) ≡ true ⌝ }
     ensures { λ r. ⌜ r ≡ stop-of way (now (plan .entry)) (now (list .entry)) ⌝ }
 {
-    let last = smaller(list.len(), plan::sample_size(plan) as usize);
+    let last = minimum(list.len(), plan::sample_size(plan) as usize);
     let mut c = plan::no_units();
     let mut i: usize = 0;
     while i < last {

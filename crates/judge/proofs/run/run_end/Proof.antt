@@ -16,8 +16,8 @@ add-end-from c = omega (arith, shape (c .before .args .plan .now) (c .before .pr
 end-from-requires : tie.Need-end-from-requires
 end-from-requires c κs = omega (arith, shape (c .before .args .plan .now) (c .before .pre .0) .thousand-units)
 
-add-smaller : tie.Need-add-smaller
-add-smaller c = omega (arith, shape (c .before .before .args .plan .now) (c .before .before .pre .0) .thousand-units)
+add-minimum : tie.Need-add-minimum
+add-minimum c = omega (arith, shape (c .before .before .args .plan .now) (c .before .before .pre .0) .thousand-units)
 
 returns : tie.Need-returns
 returns c =
@@ -25,8 +25,8 @@ returns c =
     let a = s .args in
     let f = promise (a .plan .now) (s .pre .0) .end-from-is (a .i + 1) (omega arith) in
     let e = c .before .before .end-from .ensures in
-    let m = c .before .smaller .ensures in
-    let n = c .smaller2 .ensures in
+    let m = c .before .minimum .ensures in
+    let n = c .minimum2 .ensures in
     record {
       some = ⊎-elim (λ p. ⊎-elim (λ q. omega arith) (λ q. omega arith) (m .one)) (λ p. omega arith) (n .one);
       within = omega arith;
@@ -41,7 +41,7 @@ run-end-spec =
     add-end-from
     end-from-requires
     (λ c. search needs)
-    add-smaller
+    add-minimum
     (λ c κs. search needs)
     (λ c κs. search needs)
     returns)

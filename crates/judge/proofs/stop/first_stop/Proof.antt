@@ -39,18 +39,18 @@ loop-holds c =
 run-end-requires : tie.Need-run-end-requires Inv-loop μ-loop
 run-end-requires c κs =
     let z = c .before .before .before .before .sample-size .ensures in
-    let m = c .before .before .before .smaller .ensures in
+    let m = c .before .before .before .minimum .ensures in
     (c .before .before .before .before .before .before .before .pre, omega arith, omega arith)
 
 -- where a run ends: within the list, and after 1,000 units at most
 module _ (c : tie.After-run-end Inv-loop μ-loop) where
   in-list : c .run-end .result ≤ length (c .before .before .before .before .before .before .before .before .args .list .now)
-  in-list = let m = c .before .before .before .before .smaller .ensures in let e = c .run-end .ensures in omega arith
+  in-list = let m = c .before .before .before .before .minimum .ensures in let e = c .run-end .ensures in omega arith
 
   in-plan : c .run-end .result ≤ 1000
   in-plan =
       let z = c .before .before .before .before .before .sample-size .ensures in
-      let m = c .before .before .before .before .smaller .ensures in
+      let m = c .before .before .before .before .minimum .ensures in
       let e = c .run-end .ensures in
       omega (arith, shape (c .before .before .before .before .before .before .before .before .args .plan .now) (c .before .before .before .before .before .before .before .before .pre) .thousand-units)
 
@@ -115,7 +115,7 @@ returns-3 c =
     = ⊎-elim
     (λ t. ap (first-stop (answer (a .way) (stages (a .plan .now))) (l .c)) (drop-of-length-le (a .list .now) {i = l .i} (omega arith)))
     (λ t. none-past (a .plan .now) (s .pre) (a .way) (l .c) (drop (l .i) (a .list .now)) (omega arith))
-    (c .before .before .before .before .smaller .ensures .one) in
+    (c .before .before .before .before .minimum .ensures .one) in
     c .no-stop .ensures ∙ sym (l .inv .2 ∙ none)
 
 pub first-stop-spec : {M : Type 1} → statement M
