@@ -12,7 +12,7 @@ ghost use mathlib.Core.Path.{_≡_};
 ghost use mathlib.Core.Bool.{true};
 ghost use mathlib.Core.List.{List};
 ghost use Prim.Native.Nat.{_+_, _≤_, _<_};
-ghost use Rattle.plan.specs.Plan.{Stage, stages, total, admitted};
+ghost use Rattle.plan.specs.Plan.{Stage, stages, total, admitted, end-below};
 ghost use Rattle.plan.specs.Counts.{units, add-units};
 ghost use Rattle.sheetmodel.specs.Layout.{first-record, first-free, word, highest-class};
 ghost use Rattle.sheetmodel.specs.Read.{in-use, serial-at, depth, read-inspections, read-free, undecided-before};
@@ -144,6 +144,43 @@ fn inspections(sheet: &[u32], plan: &[u32], lot: u32, serial: u32, at: u32, test
     }
 }
 
+// All inspections of a lot from the record `at` on, whose serials fall from `serial` to 1. Nothing is tested:
+// before the first unit every lot is undecided.
+fn whole_chain(sheet: &[u32], plan: &[u32], lot: u32, serial: u32, at: u32) -> Chain
+    requires { ⌜ Sized (now sheet) × (admitted (now plan) ≡ true) × (serial ≤ 1000) × (0 < serial) ⌝ }
+    ensures { λ r. ⌜ r ≡ chain-of (tested (stages (now (plan .entry))) 0) (read-inspections first-record (now (sheet .entry)) lot serial at) ⌝ }
+{
+    match newer_part(sheet, lot, serial, at, 0) {
+        Part::Cut => Chain::Cut,
+        Part::Whole(c, next) => {
+            if next == 0 {
+                return Chain::Whole(c);
+            }
+            Chain::Cut
+        }
+    }
+}
+
+// As `inspections`, where no stage ends below `test`. It does not call itself, so that it is compiled into
+// the walk over the lots; most lots come here.
+fn in_first_stage(sheet: &[u32], plan: &[u32], lot: u32, serial: u32, at: u32, test: u32) -> Chain
+    requires { ⌜ Sized (now sheet) × (admitted (now plan) ≡ true) × (serial ≤ 1000) × (0 < test) × (test < serial) × (0 ≡ end-below 0 (stages (now plan)) test) ⌝ }
+    ensures { λ r. ⌜ r ≡ chain-of (tested (stages (now (plan .entry))) test) (read-inspections first-record (now (sheet .entry)) lot serial at) ⌝ }
+{
+    match newer_part(sheet, lot, serial, at, test) {
+        Part::Cut => Chain::Cut,
+        Part::Whole(newer, next) => match whole_chain(sheet, plan, lot, test, next) {
+            Chain::Cut => Chain::Cut,
+            Chain::Whole(older) => {
+                if !is_undecided(plan::earliest(plan, older)) {
+                    return Chain::Cut;
+                }
+                Chain::Whole(all_units(older, newer))
+            }
+        },
+    }
+}
+
 // The inspections of the lot in the record `lot`, the newest in the record `newest` (0: none). A lot has
 // no more than `most` units, the plan's sample size.
 pub fn lot_inspections(sheet: &[u32], plan: &[u32], most: u32, lot: u32, newest: u32) -> Chain
@@ -162,6 +199,12 @@ pub fn lot_inspections(sheet: &[u32], plan: &[u32], most: u32, lot: u32, newest:
     }
     if most < serial {
         return Chain::Cut;
+    }
+    if serial == 1 {
+        return whole_chain(sheet, plan, lot, serial, newest);
+    }
+    if plan::end_below(plan, 0, serial - 1) == 0 {
+        return in_first_stage(sheet, plan, lot, serial, newest, serial - 1);
     }
     inspections(sheet, plan, lot, serial, newest, serial - 1)
 }
