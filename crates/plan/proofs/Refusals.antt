@@ -1,14 +1,16 @@
 -- Demand 1 of every call whose refusals are rows: it is refused with n exactly when n is the first row that applies.
 -- Assumes nothing.
-use Prim.Native.Nat.{ℕ}
+use Prim.Native.Nat.{ℕ, _+_, _≤_, _<_}
 use mathlib.Core.Path.{_≡_, refl, ap}
-use mathlib.Core.Logic.{inl, inr}
-use mathlib.Core.Bool.{Bool, true, false, cond, and-eq-true-iff}
+use mathlib.Core.Logic.{_↔_, inl, inr}
+use mathlib.Core.Bool.{Bool, true, false, cond, _&&_, and-eq-true-iff}
 use mathlib.Core.List.{List, [], _∷_}
-use lib.Dec.{leb}
+use lib.ListN.{length}
+use lib.Dec.{leb, ltb}
 use native.Mathlib.Omega.{arith}
-use borrow.Author.Tests.{leb-true}
-use Rattle.plan.specs.Refusal.{Refusal, first-refusal, First, Refused-exactly, from-one, Never-zero}
+use borrow.Author.Tests.{leb-true, ltb-true}
+use Rattle.plan.specs.Refusal.{Refusal, first-refusal, table, place, in-order, Applies, First, Refused-by, Refusal-law, First-refusal, Refused-exactly, from-one, Never-zero}
+use Rattle.plan.proofs.Bools.{and-left, and-right}
 
 module _ {A : Type 0} (refuse : ℕ → A) (granted : A) (apart : (m n : ℕ) → refuse m ≡ refuse n → m ≡ n) (not : (n : ℕ) → granted ≡ refuse n → ⊥) (n : ℕ) where
   to : (rows : List Refusal) → first-refusal refuse rows granted ≡ refuse n → First rows n
@@ -30,3 +32,57 @@ refused-exactly A refuse rows granted apart not n = (to refuse granted apart not
 pub never-zero : Never-zero
 never-zero (r ∷ rest) e (inl f) = omega (arith, f .1, leb-true 1 (r .number) (and-eq-true-iff (leb 1 (r .number)) (from-one rest) .0 e .0))
 never-zero (r ∷ rest) e (inr f) = never-zero rest (and-eq-true-iff (leb 1 (r .number)) (from-one rest) .0 e .1) (f .1)
+
+pub first-refusals : First-refusal
+first-refusals = record {
+  granted = λ A refuse g. refl;
+  applies = λ A refuse r rest g e. rw e;
+  passes = λ A refuse r rest g e. rw e;
+}
+
+-- ---- the table's order
+
+module _ (from : ℕ) (r : Refusal) (rest : List Refusal) (e : in-order from (r ∷ rest) ≡ true) where
+  here : (leb from (place (r .number)) && ltb (place (r .number)) (length table)) ≡ true
+  unfolding in-order
+  here = and-left (leb from (place (r .number)) && ltb (place (r .number)) (length table)) (in-order (place (r .number) + 1) rest) e
+
+  later : in-order (place (r .number) + 1) rest ≡ true
+  unfolding in-order
+  later = and-right (leb from (place (r .number)) && ltb (place (r .number)) (length table)) (in-order (place (r .number) + 1) rest) e
+
+  after-from : from ≤ place (r .number)
+  after-from = leb-true from (place (r .number)) (and-left (leb from (place (r .number))) (ltb (place (r .number)) (length table)) here)
+
+  in-table : place (r .number) < length table
+  in-table = ltb-true (place (r .number)) (length table) (and-right (leb from (place (r .number))) (ltb (place (r .number)) (length table)) here)
+
+-- a row that applies has a place from `from` on
+applies-after : (from m : ℕ) (rows : List Refusal) → in-order from rows ≡ true → Applies rows m → from ≤ place m
+applies-after from m (r ∷ rest) e (inl a) = omega (arith, ap place (a .1), after-from from r rest e)
+applies-after from m (r ∷ rest) e (inr a) = omega (arith, after-from from r rest e, applies-after (place (r .number) + 1) m rest (later from r rest e) a)
+
+lowest : (from n m : ℕ) (rows : List Refusal) → in-order from rows ≡ true → First rows n → Applies rows m → place n ≤ place m
+lowest from n m (r ∷ rest) e (inl f) (inl a) = omega (arith, ap place (f .1), ap place (a .1))
+lowest from n m (r ∷ rest) e (inl f) (inr a) =
+    omega (arith, ap place (f .1), applies-after (place (r .number) + 1) m rest (later from r rest e) a)
+lowest from n m (r ∷ rest) e (inr f) (inl a) = let z : _≡_ {A = ℕ} 0 1 = cc (f .0, a .0) in absurd (omega arith)
+lowest from n m (r ∷ rest) e (inr f) (inr a) = lowest (place (r .number) + 1) n m rest (later from r rest e) (f .1) a
+
+-- 0 is not in the table
+zero-place : place 0 ≡ length table
+unfolding place
+zero-place = refl
+
+never-first : (from : ℕ) (rows : List Refusal) → in-order from rows ≡ true → First rows 0 → ⊥
+never-first from (r ∷ rest) e (inl f) = omega (arith, ap place (f .1), zero-place, in-table from r rest e)
+never-first from (r ∷ rest) e (inr f) = never-first (place (r .number) + 1) rest (later from r rest e) (f .1)
+
+pub refusal-law : Refusal-law
+refusal-law A refuse rows granted apart not e =
+    let exactly : (n : ℕ) → (first-refusal refuse rows granted ≡ refuse n) ↔ First rows n = refused-exactly A refuse rows granted apart not in
+    record {
+      exactly = exactly;
+      lowest = λ n m f. lowest 0 n m rows e (exactly n .0 f);
+      never-zero = λ f. never-first 0 rows e (exactly 0 .0 f);
+    }

@@ -14,7 +14,7 @@ use Rattle.plan.specs.declared.stage.Answer.the-variants.{GoOn, Accept, 
 use Rattle.plan.specs.Plan.{Stage, total}
 use Rattle.plan.specs.Counts.{units, no-units, add-units, counts}
 use Rattle.plan.specs.Stopping.{at-filled, completed, earliest}
-use Rattle.plan.specs.Sample.{Classes, verdict, Completion, All-have}
+use Rattle.plan.specs.Sample.{highest-class, Classes, verdict, Completion, All-have}
 use Rattle.plan.specs.Promise.{History, rank}
 use Rattle.plan.proofs.Order.{top, bottom, accepts-worst, rejects-best, undecided, not-accepted, not-rejected}
 use Rattle.plan.proofs.Ends.{Each, first-mono, first-same, first-on, end-case}
@@ -27,7 +27,7 @@ pub classes-append : (h r : List ℕ) → Classes h → Classes r → Classes (h
 classes-append [] r c d = d
 classes-append (x ∷ h) r c d = (c .0, classes-append h r (c .1) d)
 
-classes-replicate : (n class : ℕ) → class ≤ 2 → Classes (replicate n class)
+classes-replicate : (n class : ℕ) → class ≤ highest-class → Classes (replicate n class)
 classes-replicate zero class l = tt
 classes-replicate (suc n) class l = (l, classes-replicate n class l)
 
@@ -36,7 +36,7 @@ classes-take zero h c = tt
 classes-take (suc y) [] c = tt
 classes-take (suc y) (x ∷ h) c = (c .0, classes-take y h (c .1))
 
-pub filled : (class : ℕ) (p : List Stage) (h : List ℕ) → class ≤ 2 → Classes h → length h ≤ total p
+pub filled : (class : ℕ) (p : List Stage) (h : List ℕ) → class ≤ highest-class → Classes h → length h ≤ total p
     → Completion p h (h ++ replicate (total p - length h) class)
 filled class p h l c n = record {
   complete = omega (arith, length-append h (replicate (total p - length h) class), length-replicate (total p - length h) class);
@@ -82,7 +82,7 @@ module _ (p : List Stage) (h : List ℕ) (k : History p h) where
   right-within : length h ≤ total p → Right p h
   unfolding earliest
   right-within n =
-      let one : (class : ℕ) → class ≤ 2 → (v : Answer) → All-have p h v → completed class 0 p (counts h) ≡ v
+      let one : (class : ℕ) → class ≤ highest-class → (v : Answer) → All-have p h v → completed class 0 p (counts h) ≡ v
       = λ class l v f. sym (exact class) ∙ f _ (filled class p h l (k .classes) n) in
       record {
         accepted = (

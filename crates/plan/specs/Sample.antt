@@ -1,19 +1,47 @@
 -- Samples, their uncurtailed verdict, and stopping rules. Document 01, "Sheet".
 use Prim.Native.Nat.{ℕ, _≤_, _<_}
 use mathlib.Core.Path.{_≡_}
-use mathlib.Core.Logic.{_≢_}
-use mathlib.Core.List.{List, [], _∷_}
+use mathlib.Core.Logic.{_↔_, _≢_}
+use mathlib.Core.Bool.{Bool, true, _&&_}
+use mathlib.Core.List.{List, [], _∷_, _++_}
 use lib.ListN.{length, take}
+use lib.Dec.{leb}
 use Rattle.plan.specs.declared.stage.Answer.{Answer}
 use Rattle.plan.specs.declared.stage.Answer.the-variants.{GoOn}
 use Rattle.plan.specs.Plan.{Stage, total}
 use Rattle.plan.specs.Counts.{counts}
 use Rattle.plan.specs.Stopping.{at-end, first-answer}
 
+-- ---- classes
+
+-- the highest class that a unit may have
+abbrev pub highest-class : ℕ
+highest-class = 2
+
 -- each class is one that a unit may have
 abbrev pub Classes : List ℕ → Type 0
 Classes [] = Unit {0}
-Classes (x ∷ xs) = (x ≤ 2) × Classes xs
+Classes (x ∷ xs) = (x ≤ highest-class) × Classes xs
+
+-- the same as a test
+abbrev pub are-classes : List ℕ → Bool
+are-classes [] = true
+are-classes (x ∷ xs) = leb x highest-class && are-classes xs
+
+-- what the layers above use of the two
+pub record Classing : Type 0 where
+  pub tested : (xs : List ℕ) → (are-classes xs ≡ true) ↔ Classes xs
+  pub none : Classes []
+  pub more : (x : ℕ) (xs : List ℕ) → x ≤ highest-class → Classes xs → Classes (x ∷ xs)
+  pub first : (x : ℕ) (xs : List ℕ) → Classes (x ∷ xs) → x ≤ highest-class
+  pub rest : (x : ℕ) (xs : List ℕ) → Classes (x ∷ xs) → Classes xs
+  pub appended : (h x : List ℕ) → Classes h → Classes x → Classes (h ++ x)
+  pub taken : (y : ℕ) (h : List ℕ) → Classes h → Classes (take y h)
+  -- the test, class by class
+  pub none-tested : are-classes [] ≡ true
+  pub more-tested : (x : ℕ) (xs : List ℕ) → are-classes (x ∷ xs) ≡ (leb x highest-class && are-classes xs)
+
+-- ---- samples
 
 -- the uncurtailed verdict of a sample: that of the first stage at whose end uncurtailed does not go on
 unfoldable pub verdict : List Stage → List ℕ → Answer
