@@ -2,14 +2,14 @@
 -- Assumes nothing.
 use Prim.Native.Nat.{ℕ, _+_, _≤_, _<_}
 use mathlib.Core.Path.{_≡_, refl, ap}
-use mathlib.Core.Logic.{_↔_, inl, inr}
+use mathlib.Core.Logic.{_↔_, _⊎_, inl, inr}
 use mathlib.Core.Bool.{Bool, true, false, cond, _&&_, and-eq-true-iff}
 use mathlib.Core.List.{List, [], _∷_}
 use lib.ListN.{length}
 use lib.Dec.{leb, ltb}
 use native.Mathlib.Omega.{arith}
 use borrow.Author.Tests.{leb-true, ltb-true}
-use Rattle.plan.specs.Refusal.{Refusal, first-refusal, table, place, in-order, Applies, First, Refused-by, Refusal-law, First-refusal, Refused-exactly, from-one, Never-zero}
+use Rattle.plan.specs.Refusal.{Refusal, first-refusal, table, place, in-order, Applies, First, Refused-by, Refusal-law, None-applies, First-refusal, Refused-exactly, from-one, Never-zero}
 use Rattle.plan.proofs.Bools.{and-left, and-right}
 
 module _ {A : Type 0} (refuse : ℕ → A) (granted : A) (apart : (m n : ℕ) → refuse m ≡ refuse n → m ≡ n) (not : (n : ℕ) → granted ≡ refuse n → ⊥) (n : ℕ) where
@@ -22,22 +22,36 @@ module _ {A : Type 0} (refuse : ℕ → A) (granted : A) (apart : (m n : ℕ) �
       go true w e′ later = inl (w, apart (r .number) n e′)
       go false w e′ later = inr (w, later e′)
 
-  from : (rows : List Refusal) → First rows n → first-refusal refuse rows granted ≡ refuse n
-  from (r ∷ rest) (inl f) = rw (f .0) (ap refuse (f .1))
-  from (r ∷ rest) (inr f) = rw (f .0) (from rest (f .1))
-
-pub refused-exactly : Refused-exactly
-refused-exactly A refuse rows granted apart not n = (to refuse granted apart not n rows, from refuse granted apart not n rows)
-
 pub never-zero : Never-zero
 never-zero (r ∷ rest) e (inl f) = omega (arith, f .1, leb-true 1 (r .number) (and-eq-true-iff (leb 1 (r .number)) (from-one rest) .0 e .0))
 never-zero (r ∷ rest) e (inr f) = never-zero rest (and-eq-true-iff (leb 1 (r .number)) (from-one rest) .0 e .1) (f .1)
 
+module _ {A : Type 0} (refuse : ℕ → A) (g : A) where
+  pub refuses : (rows : List Refusal) (n : ℕ) → First rows n → first-refusal refuse rows g ≡ refuse n
+  refuses (r ∷ rest) n (inl f) = rw (f .0) (ap refuse (f .1))
+  refuses (r ∷ rest) n (inr f) = rw (f .0) (refuses rest n (f .1))
+
+  pub grants : (rows : List Refusal) → None-applies rows → first-refusal refuse rows g ≡ g
+  grants [] e = refl
+  grants (r ∷ rest) e = rw (e .0) (grants rest (e .1))
+
+pub refused-exactly : Refused-exactly
+refused-exactly A refuse rows granted apart not n = (to refuse granted apart not n rows, refuses refuse granted rows n)
+
+pub either : (rows : List Refusal) → ((n : ℕ) × First rows n) ⊎ None-applies rows
+either [] = inr tt
+either (r ∷ rest) = go (r .when) refl (either rest)
+  where
+    go : (b : Bool) → r .when ≡ b → ((n : ℕ) × First rest n) ⊎ None-applies rest → ((n : ℕ) × First (r ∷ rest) n) ⊎ None-applies (r ∷ rest)
+    go true w later = inl (r .number, inl (w, refl))
+    go false w (inl f) = inl (f .0, inr (w, f .1))
+    go false w (inr e) = inr (w, e)
+
 pub first-refusals : First-refusal
 first-refusals = record {
-  granted = λ A refuse g. refl;
-  applies = λ A refuse r rest g e. rw e;
-  passes = λ A refuse r rest g e. rw e;
+  refuses = λ A refuse rows g. refuses refuse g rows;
+  grants = λ A refuse rows g. grants refuse g rows;
+  either = either;
 }
 
 -- ---- the table's order

@@ -61,13 +61,16 @@ Refusal-law = (A : Type 0) (refuse : ℕ → A) (rows : List Refusal) (granted :
     → ((m n : ℕ) → refuse m ≡ refuse n → m ≡ n) → ((n : ℕ) → granted ≡ refuse n → ⊥) → in-order 0 rows ≡ true
     → Refused-by refuse rows (first-refusal refuse rows granted)
 
+-- no row applies
+abbrev pub None-applies : List Refusal → Type 0
+None-applies [] = Unit {0}
+None-applies (r ∷ rest) = (r .when ≡ false) × None-applies rest
+
 -- what the crates above use of `first-refusal`
 pub record First-refusal : Type 1 where
-  pub granted : (A : Type 0) (refuse : ℕ → A) (g : A) → first-refusal refuse [] g ≡ g
-  pub applies : (A : Type 0) (refuse : ℕ → A) (r : Refusal) (rest : List Refusal) (g : A) → r .when ≡ true
-      → first-refusal refuse (r ∷ rest) g ≡ refuse (r .number)
-  pub passes : (A : Type 0) (refuse : ℕ → A) (r : Refusal) (rest : List Refusal) (g : A) → r .when ≡ false
-      → first-refusal refuse (r ∷ rest) g ≡ first-refusal refuse rest g
+  pub refuses : (A : Type 0) (refuse : ℕ → A) (rows : List Refusal) (g : A) (n : ℕ) → First rows n → first-refusal refuse rows g ≡ refuse n
+  pub grants : (A : Type 0) (refuse : ℕ → A) (rows : List Refusal) (g : A) → None-applies rows → first-refusal refuse rows g ≡ g
+  pub either : (rows : List Refusal) → ((n : ℕ) × First rows n) ⊎ None-applies rows
 
 -- demand 1: refused with n exactly when n is the first row that applies, where no two refusals and no grant look alike
 abbrev pub Refused-exactly : Type 1
