@@ -59,14 +59,14 @@ of-chart (chart.Refused n) not = (λ e. not (ap chart.Refused e), λ g. absurd g
 
 pub zero-law : Zero-law
 zero-law = record {
-  fresh = λ p w. of-done _ (demand-1 w .fresh p .never-zero);
-  opening = λ n w. of-done _ (demand-1 w .opening n .never-zero);
-  inspecting = λ n c w. of-done _ (demand-1 w .inspecting n c .never-zero);
-  striking = λ n w. of-done _ (demand-1 w .striking n .never-zero);
-  closing = λ n w. of-done _ (demand-1 w .closing n .never-zero);
-  looking = λ n w. of-looked _ (demand-1 w .looking n .never-zero);
-  tallying = λ w. of-tallied _ (demand-1 w .tallying .never-zero);
-  estimating = λ n w. of-estimated _ (demand-1 w .estimating n .never-zero);
+  fresh = λ p w. of-done _ (demand-1 w .fresh p .by-rows .never-zero);
+  opening = λ n w. of-done _ (demand-1 w .opening n .by-rows .never-zero);
+  inspecting = λ n c w. of-done _ (demand-1 w .inspecting n c .by-rows .never-zero);
+  striking = λ n w. of-done _ (demand-1 w .striking n .by-rows .never-zero);
+  closing = λ n w. of-done _ (demand-1 w .closing n .by-rows .never-zero);
+  looking = λ n w. of-looked _ (demand-1 w .looking n .by-rows .never-zero);
+  tallying = λ w. of-tallied _ (demand-1 w .tallying .by-rows .never-zero);
+  estimating = λ n w. of-estimated _ (demand-1 w .estimating n .by-rows .never-zero);
   judging = λ p list. of-judged (judge.judged p list) (λ e. never-zero (judge.refusals p list) refl (refused-rightly p list 0 .0 e));
   chance = λ p w n. of-bounded (chance.chance-reply p w n) (λ e. never-zero (chance.refusals p w n) refl (refusal-law p w n 0 .0 .0 e));
   charting = λ p w n. of-chart (chance.chart-reply p w n) (λ e. never-zero (chance.refusals p w n) refl (refusal-law p w n 0 .1 .0 e));

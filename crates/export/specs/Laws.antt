@@ -4,7 +4,8 @@ use Prim.Native.Nat.{ℕ}
 use mathlib.Core.Path.{_≡_}
 use mathlib.Core.Logic.{_↔_}
 use mathlib.Core.List.{List}
-use Rattle.sheetmodel.specs.Reply.{Reply, granted, refused, done-reply, look-reply, tally-reply, estimate-reply}
+use Rattle.plan.specs.Reply.{Reply, granted, refused}
+use Rattle.sheetmodel.specs.Reply.{done-reply, look-reply, tally-reply, estimate-reply}
 use Rattle.sheetmodel.specs.Calls.{fresh, open-lot, inspect, strike, close, look, tally}
 use Rattle.sheetmodel.specs.Estimate.{estimate}
 use Rattle.judge.specs.Judge.{judged}

@@ -2,7 +2,7 @@
 use Prim.Native.Nat.{ℕ}
 use mathlib.Core.List.{List, [], _∷_}
 use lib.Ieee.{Float}
-use Rattle.sheetmodel.specs.Reply.{Reply, granted, refused}
+use Rattle.plan.specs.Reply.{Reply, granted, refused}
 use Rattle.judge.specs.declared.list.Judged.{Judged}
 use Rattle.judge.specs.declared.list.Judged.the-variants as judged
 use Rattle.judge.specs.Judge.{numbers}

@@ -17,7 +17,8 @@ use Rattle.plan.specs.Sample.{Classes, verdict, All-have, Rule, Stops, F
 use Rattle.plan.specs.Promise.{earliest-rule, History, Least, Best}
 use Rattle.plan.proofs.FirstPlace.{Never, First, first}
 use Rattle.plan.proofs.Limits.{Limits}
-use Rattle.plan.proofs.Verdicts.{classes-take, filled, history-take, Right, right, settles, no-longer, decided, verdict-decides}
+use Rattle.plan.proofs.Sample.{classes-take}
+use Rattle.plan.proofs.Verdicts.{filled, history-take, Right, right, settles, no-longer, decided, verdict-decides}
 
 -- two samples that agree up to a stop of the rule on the one: the rule stops there on the other, with the same verdict
 one-stop : (rule : Rule) (x x′ : List ℕ) (y y′ : ℕ) (v v′ : Answer) → take y x ≡ take y x′ → Stops rule x y v → Stops rule x′ y′ v′ → v′ ≡ v

@@ -22,7 +22,8 @@ use Rattle.plan.specs.Sample.{Classes, Completion, All-have, Stops}
 use Rattle.plan.specs.Promise.{earliest-rule, staged-rule}
 use Rattle.plan.proofs.FirstPlace.{Never, First, first}
 use Rattle.plan.proofs.Limits.{Limits}
-use Rattle.plan.proofs.Verdicts.{classes-take, filled, right, settles}
+use Rattle.plan.proofs.Sample.{classes-take}
+use Rattle.plan.proofs.Verdicts.{filled, right, settles}
 use Rattle.plan.proofs.Best.{all-have, history}
 use Rattle.plan.proofs.StageWays.{sound, within-plan}
 

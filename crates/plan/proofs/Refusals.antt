@@ -4,7 +4,7 @@ use Prim.Native.Nat.{ℕ, _+_, _≤_, _<_}
 use mathlib.Core.Path.{_≡_, refl, ap}
 use mathlib.Core.Logic.{_↔_, _⊎_, inl, inr}
 use mathlib.Core.Bool.{Bool, true, false, cond, _&&_, and-eq-true-iff}
-use mathlib.Core.List.{List, [], _∷_}
+use mathlib.Core.List.{List, [], _∷_, _++_}
 use lib.ListN.{length}
 use lib.Dec.{leb, ltb}
 use native.Mathlib.Omega.{arith}
@@ -14,6 +14,7 @@ use Rattle.plan.proofs.Bools.{and-left, and-right}
 
 module _ {A : Type 0} (refuse : ℕ → A) (granted : A) (apart : (m n : ℕ) → refuse m ≡ refuse n → m ≡ n) (not : (n : ℕ) → granted ≡ refuse n → ⊥) (n : ℕ) where
   to : (rows : List Refusal) → first-refusal refuse rows granted ≡ refuse n → First rows n
+  unfolding first-refusal
   to [] e = not n e
   to (r ∷ rest) e = go (r .when) refl e (to rest)
     where
@@ -28,12 +29,18 @@ never-zero (r ∷ rest) e (inr f) = never-zero rest (and-eq-true-iff (leb 1 (r .
 
 module _ {A : Type 0} (refuse : ℕ → A) (g : A) where
   pub refuses : (rows : List Refusal) (n : ℕ) → First rows n → first-refusal refuse rows g ≡ refuse n
+  unfolding first-refusal
   refuses (r ∷ rest) n (inl f) = rw (f .0) (ap refuse (f .1))
   refuses (r ∷ rest) n (inr f) = rw (f .0) (refuses rest n (f .1))
 
   pub grants : (rows : List Refusal) → None-applies rows → first-refusal refuse rows g ≡ g
+  unfolding first-refusal
   grants [] e = refl
   grants (r ∷ rest) e = rw (e .0) (grants rest (e .1))
+
+  passes : (r : Refusal) (rest : List Refusal) → r .when ≡ false → first-refusal refuse (r ∷ rest) g ≡ first-refusal refuse rest g
+  unfolding first-refusal
+  passes r rest e = rw e
 
 pub refused-exactly : Refused-exactly
 refused-exactly A refuse rows granted apart not n = (to refuse granted apart not n rows, refuses refuse granted rows n)
@@ -47,10 +54,25 @@ either (r ∷ rest) = go (r .when) refl (either rest)
     go false w (inl f) = inl (f .0, inr (w, f .1))
     go false w (inr e) = inr (w, e)
 
+-- ---- rows in two parts
+
+pub first-append : (rows rest : List Refusal) (n : ℕ) → First rows n → First (rows ++ rest) n
+first-append (r ∷ rows) rest n (inl f) = inl f
+first-append (r ∷ rows) rest n (inr f) = inr (f .0, first-append rows rest n (f .1))
+
+pub first-after : (rows rest : List Refusal) (n : ℕ) → None-applies rows → First rest n → First (rows ++ rest) n
+first-after [] rest n e f = f
+first-after (r ∷ rows) rest n e f = inr (e .0, first-after rows rest n (e .1) f)
+
+pub none-append : (rows rest : List Refusal) → None-applies rows → None-applies rest → None-applies (rows ++ rest)
+none-append [] rest e f = f
+none-append (r ∷ rows) rest e f = (e .0, none-append rows rest (e .1) f)
+
 pub first-refusals : First-refusal
 first-refusals = record {
   refuses = λ A refuse rows g. refuses refuse g rows;
   grants = λ A refuse rows g. grants refuse g rows;
+  passes = λ A refuse r rest g. passes refuse g r rest;
   either = either;
 }
 
@@ -58,11 +80,9 @@ first-refusals = record {
 
 module _ (from : ℕ) (r : Refusal) (rest : List Refusal) (e : in-order from (r ∷ rest) ≡ true) where
   here : (leb from (place (r .number)) && ltb (place (r .number)) (length table)) ≡ true
-  unfolding in-order
   here = and-left (leb from (place (r .number)) && ltb (place (r .number)) (length table)) (in-order (place (r .number) + 1) rest) e
 
   later : in-order (place (r .number) + 1) rest ≡ true
-  unfolding in-order
   later = and-right (leb from (place (r .number)) && ltb (place (r .number)) (length table)) (in-order (place (r .number) + 1) rest) e
 
   after-from : from ≤ place (r .number)
@@ -85,7 +105,6 @@ lowest from n m (r ∷ rest) e (inr f) (inr a) = lowest (place (r .number) + 1) 
 
 -- 0 is not in the table
 zero-place : place 0 ≡ length table
-unfolding place
 zero-place = refl
 
 never-first : (from : ℕ) (rows : List Refusal) → in-order from rows ≡ true → First rows 0 → ⊥

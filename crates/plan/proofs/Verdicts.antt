@@ -17,24 +17,12 @@ use Rattle.plan.specs.Stopping.{at-filled, completed, earliest}
 use Rattle.plan.specs.Sample.{highest-class, Classes, verdict, Completion, All-have}
 use Rattle.plan.specs.Promise.{History, rank}
 use Rattle.plan.proofs.Order.{top, bottom, accepts-worst, rejects-best, undecided, not-accepted, not-rejected}
+use Rattle.plan.proofs.Sample.{classes-append, classes-replicate, classes-take}
 use Rattle.plan.proofs.Ends.{Each, first-mono, first-same, first-on, end-case}
 use Rattle.plan.proofs.Limits.{Sound, Limits, decides}
 use Rattle.plan.proofs.Prefix.{Ended, ended, worst, best, reached}
 
 -- ---- the completion by units of one class
-
-pub classes-append : (h r : List ℕ) → Classes h → Classes r → Classes (h ++ r)
-classes-append [] r c d = d
-classes-append (x ∷ h) r c d = (c .0, classes-append h r (c .1) d)
-
-classes-replicate : (n class : ℕ) → class ≤ highest-class → Classes (replicate n class)
-classes-replicate zero class l = tt
-classes-replicate (suc n) class l = (l, classes-replicate n class l)
-
-pub classes-take : (y : ℕ) (h : List ℕ) → Classes h → Classes (take y h)
-classes-take zero h c = tt
-classes-take (suc y) [] c = tt
-classes-take (suc y) (x ∷ h) c = (c .0, classes-take y h (c .1))
 
 pub filled : (class : ℕ) (p : List Stage) (h : List ℕ) → class ≤ highest-class → Classes h → length h ≤ total p
     → Completion p h (h ++ replicate (total p - length h) class)

@@ -12,7 +12,7 @@ pub record Refusal : Type 0 where
   pub number : ℕ
   pub when : Bool
 
-abbrev pub first-refusal : {A : Type 0} → (ℕ → A) → List Refusal → A → A
+unfoldable pub first-refusal : {A : Type 0} → (ℕ → A) → List Refusal → A → A
 first-refusal refuse [] granted = granted
 first-refusal refuse (r ∷ rest) granted = cond (r .when) (refuse (r .number)) (first-refusal refuse rest granted)
 
@@ -28,11 +28,11 @@ before n [] = 0
 before n (m ∷ rest) = cond (eqb n m) 0 (before n rest + 1)
 
 -- the place of a number in the table
-unfoldable pub place : ℕ → ℕ
+abbrev pub place : ℕ → ℕ
 place n = before n table
 
 -- each row has a number of the table, whose place is `from` or later and after that of the row before
-unfoldable pub in-order : ℕ → List Refusal → Bool
+abbrev pub in-order : ℕ → List Refusal → Bool
 in-order from [] = true
 in-order from (r ∷ rest) = leb from (place (r .number)) && ltb (place (r .number)) (length table) && in-order (place (r .number) + 1) rest
 
@@ -70,6 +70,8 @@ None-applies (r ∷ rest) = (r .when ≡ false) × None-applies rest
 pub record First-refusal : Type 1 where
   pub refuses : (A : Type 0) (refuse : ℕ → A) (rows : List Refusal) (g : A) (n : ℕ) → First rows n → first-refusal refuse rows g ≡ refuse n
   pub grants : (A : Type 0) (refuse : ℕ → A) (rows : List Refusal) (g : A) → None-applies rows → first-refusal refuse rows g ≡ g
+  pub passes : (A : Type 0) (refuse : ℕ → A) (r : Refusal) (rest : List Refusal) (g : A) → r .when ≡ false
+      → first-refusal refuse (r ∷ rest) g ≡ first-refusal refuse rest g
   pub either : (rows : List Refusal) → ((n : ℕ) × First rows n) ⊎ None-applies rows
 
 -- demand 1: refused with n exactly when n is the first row that applies, where no two refusals and no grant look alike

@@ -19,12 +19,12 @@ abbrev pub highest-class : ℕ
 highest-class = 2
 
 -- each class is one that a unit may have
-abbrev pub Classes : List ℕ → Type 0
+unfoldable pub Classes : List ℕ → Type 0
 Classes [] = Unit {0}
 Classes (x ∷ xs) = (x ≤ highest-class) × Classes xs
 
 -- the same as a test
-abbrev pub are-classes : List ℕ → Bool
+unfoldable pub are-classes : List ℕ → Bool
 are-classes [] = true
 are-classes (x ∷ xs) = leb x highest-class && are-classes xs
 

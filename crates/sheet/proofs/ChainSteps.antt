@@ -17,7 +17,8 @@ use Rattle.sheet.specs.declared.record.Record.{Record}
 use Rattle.sheet.specs.declared.chain.Chain.{Chain}
 use Rattle.sheet.specs.declared.chain.Chain.the-variants.{Cut, Whole}
 use Rattle.sheet.specs.declared.chain.Part.the-variants as part
-use Rattle.sheetmodel.specs.Layout.{field, next, first-record, highest-class}
+use Rattle.plan.specs.Sample.{highest-class}
+use Rattle.sheetmodel.specs.Layout.{field, next, first-record}
 use Rattle.sheetmodel.specs.Contents.{Inspection, classes}
 use Rattle.sheetmodel.specs.Read.{guard, then, read-inspections}
 use Rattle.sheet.specs.Survey.{record-at, is-inspection, may-go-on, next-test, tested, chain-of, all-units, if-undecided, with-newer, with-older}

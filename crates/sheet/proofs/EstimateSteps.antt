@@ -1,8 +1,9 @@
 -- What estimate replies, by what its code has tested: a decided lot has a newest unit, and its counts without that unit are
 -- those of the units before the last. Assumes nothing.
 use Prim.Native.Nat.{ℕ, zero, suc, _+_, _-_, _*_, _≤_, _<_}
-use mathlib.Core.Path.{_≡_, ap, _∙_}
-use mathlib.Core.Bool.{true, false, true≢false, not}
+use mathlib.Core.Path.{_≡_, refl, ap, _∙_}
+use mathlib.Core.Logic.{inl, inr}
+use mathlib.Core.Bool.{true, false, true≢false}
 use mathlib.Core.List.{List, [], _∷_}
 use native.Mathlib.Omega.{arith}
 use lib.ListN.{length, drop, length-take, length-drop}
@@ -21,18 +22,19 @@ use Rattle.sheetmodel.specs.Layout.{size-ok, word, field, newest, next-unused, 
 use Rattle.sheetmodel.specs.Contents.{Inspection, classes, history}
 use Rattle.sheetmodel.specs.Holds.{Inspections}
 use Rattle.sheetmodel.specs.Read.{undecided}
-use Rattle.sheetmodel.specs.Calls.{row, corrupt, on-sheet, lot, lot-answer}
+use Rattle.sheetmodel.specs.Rows.{lot-rows, estimate-own}
+use Rattle.sheetmodel.specs.Calls.{standing}
 use Rattle.sheetmodel.specs.History.{without-last}
 use Rattle.sheetmodel.specs.Estimate.{estimate-of, estimate-rows, estimate}
 use Rattle.sheet.specs.Estimating.{units-of-class, without-unit}
 use Rattle.sheet.specs.Writes.{In-words}
-use Rattle.sheet.specs.Locating.{found-on, located}
-use Rattle.sheetmodel.proofs.Promise.{classes-cons, length-classes, without-last-snoc}
+use Rattle.sheet.specs.Locating.{located}
+use Rattle.sheetmodel.proofs.Promise.{classes-cons, length-classes, without-last-snoc, refuses, grants}
 use Rattle.sheet.proofs.Sizes.{long-enough}
 use Rattle.sheet.proofs.HeaderSteps.{few-stages}
 use Rattle.sheet.proofs.Requires.{holds, on-chain}
-use Rattle.sheet.proofs.LocatedFacts.{With-lot, refused-by}
-use Rattle.sheet.proofs.CallSteps.{at-is, counts-are, few, answer-is}
+use Rattle.sheet.proofs.LocatedFacts.{With-lot}
+use Rattle.sheet.proofs.CallSteps.{at-is, counts-are, few, as-rows-ask, found-lot, past-lot, all-past-lot, first-rows}
 
 -- a unit added can be taken away
 pub some-unit : (x : ℕ) (d : Counts) → 1 ≤ units-of-class x (add-units x 1 d)
@@ -61,13 +63,9 @@ pub record Newest (w : List ℕ) (f : Found) (h : List ℕ) : Type 0 where
   pub number : units (counts (without-last h)) ≡ length h - 1
 
 module _ (n : ℕ) (w : List ℕ) where
-  pub estimate-refused : (r : ℕ) → located n w (row 6 (not (on-sheet n w)) ∷ []) ≡ Refused r → estimate n w ≡ record { reply = estimated.Refused r; words = w }
+  pub estimate-refused : (r : ℕ) → located n w (lot-rows (standing n w) []) ≡ Refused r → estimate n w ≡ record { reply = estimated.Refused r; words = w }
   unfolding estimate estimate-rows
-  estimate-refused r e =
-      refused-by (λ m. record { reply = estimated.Refused m; words = w })
-      (record { reply = estimated.Estimate (estimate-of (stages (plan-words w)) (history (lot n w))); words = w })
-      (row 10 (undecided (lot-answer w (lot n w))) ∷ row 15 (ltb 1 (length (stages (plan-words w)))) ∷ [])
-      (found-on n w) r (row 1 (not (size-ok w)) ∷ row 3 (corrupt w) ∷ row 6 (not (on-sheet n w)) ∷ []) e
+  estimate-refused r e = refuses estimated.Refused w _ w (estimate-rows n w) r (first-rows n w (estimate-own (plan-words w) (standing n w)) r e)
 
   module _ (f : Found) (k : With-lot n w f) where
     stages-are : length (stages (plan-words w)) ≡ word w stage-count
@@ -79,12 +77,14 @@ module _ (n : ℕ) (w : List ℕ) where
 
     pub estimate-undecided : undecided (earliest (stages (plan-words w)) (f .counts)) ≡ true → estimate n w ≡ record { reply = estimated.Refused 10; words = w }
     unfolding estimate estimate-rows
-    estimate-undecided u = rw (k .size, k .reads, k .finds, answer-is n w f k, u)
+    estimate-undecided u = refuses estimated.Refused w _ w (estimate-rows n w) 10 (past-lot n w f k (estimate-own (plan-words w) (standing n w)) 10 (inl (as-rows-ask n w f k true u, refl)))
 
     module _ (u : undecided (earliest (stages (plan-words w)) (f .counts)) ≡ false) where
       pub estimate-stages : 1 < word w stage-count → estimate n w ≡ record { reply = estimated.Refused 15; words = w }
       unfolding estimate estimate-rows
-      estimate-stages h = rw (k .size, k .reads, k .finds, answer-is n w f k, u, stages-are, lt-ltb 1 (word w stage-count) h)
+      estimate-stages h =
+          refuses estimated.Refused w _ w (estimate-rows n w) 15
+          (past-lot n w f k (estimate-own (plan-words w) (standing n w)) 15 (inr (as-rows-ask n w f k false u, inl (rw stages-are (lt-ltb 1 (word w stage-count) h), refl))))
 
       newest-at : (is : List Inspection) → Inspections first-record w (word w next-unused) (k .lot .at) is (newest w (k .lot .at)) → f .counts ≡ counts (classes is) → Newest w f (classes is)
       newest-at [] h e =
@@ -123,4 +123,6 @@ module _ (n : ℕ) (w : List ℕ) where
       unfolding estimate estimate-rows
       estimate-granted h c e =
           let same : estimate-of (stages (plan-words w)) (history (k .lot)) ≡ record { good = c .good; marginal = c .marginal; bad = c .bad; over = units c } = rw (e ∙ older-are, newest-unit .number) in
-          rw (k .size, k .reads, k .finds, answer-is n w f k, u, stages-are, le-ltb 1 (word w stage-count) h) (ap (λ (x : Estimate). record { reply = estimated.Estimate x; words = w }) same)
+          grants estimated.Refused w _ w (estimate-rows n w)
+          (all-past-lot n w f k (estimate-own (plan-words w) (standing n w)) (as-rows-ask n w f k false u, (rw stages-are (le-ltb 1 (word w stage-count) h), tt))) ∙
+          rw (found-lot n w f k) (ap (λ (x : Estimate). record { reply = estimated.Estimate x; words = w }) same)

@@ -11,7 +11,7 @@ use borrow.Author.Tests.{eq-eqb, ne-eqb}
 use Rattle.sheet.specs.declared.chain.FreeChain.the-variants.{Cut, Whole}
 use Rattle.sheetmodel.specs.Layout.{word, field, next, first-free, first-record}
 use Rattle.sheetmodel.specs.Read.{guard, then, in-use, depth, read-free}
-use Rattle.sheetmodel.specs.Calls.{is-some}
+use Rattle.sheetmodel.specs.Rows.{is-some}
 use Rattle.sheet.specs.Survey.{is-free, free-of}
 use Rattle.sheetmodel.proofs.Promise.{sound-free}
 

@@ -12,7 +12,8 @@ use Rattle.sheetmodel.specs.Layout.{word, field, next, put-record, next-unused,
 use Rattle.sheetmodel.specs.Contents.{Inspection}
 use Rattle.sheetmodel.specs.Holds.{Inspections}
 use Rattle.sheetmodel.specs.Read.{depth}
-use Rattle.sheetmodel.specs.Calls.{is-some, free-record, free-inspections}
+use Rattle.sheetmodel.specs.Rows.{is-some}
+use Rattle.sheetmodel.specs.Calls.{free-record, free-inspections}
 use Rattle.sheet.specs.Writes.{In-words, Freeing, read-chain, chain}
 use Rattle.sheetmodel.proofs.Promise.{Same, same-trans, word-set, word-set-here, same-set, written, keep-inspections, sound-inspections}
 

@@ -1,22 +1,24 @@
 -- What fresh replies and leaves, by what its code has tested. Assumes nothing.
 use Prim.Native.Nat.{ℕ}
-use mathlib.Core.Path.{_≡_}
+use mathlib.Core.Path.{_≡_, refl}
+use mathlib.Core.Logic.{inl, inr}
 use mathlib.Core.Bool.{true, false}
 use mathlib.Core.List.{List}
 use Rattle.plan.specs.Plan.{admitted}
 use Rattle.sheetmodel.specs.declared.reply.Done.the-variants as done
 use Rattle.sheetmodel.specs.Layout.{size-ok}
 use Rattle.sheetmodel.specs.Calls.{fresh, fresh-rows, fresh-words}
+use Rattle.sheetmodel.proofs.Promise.{refuses, grants}
 
 module _ (p w : List ℕ) where
   pub wrong-size : size-ok w ≡ false → fresh p w ≡ record { reply = done.Refused 1; words = w }
   unfolding fresh fresh-rows
-  wrong-size z = rw z
+  wrong-size z = refuses done.Refused w done.Ok (fresh-words p w) (fresh-rows p w) 1 (inl (rw z refl, refl))
 
   pub not-admitted : size-ok w ≡ true → admitted p ≡ false → fresh p w ≡ record { reply = done.Refused 2; words = w }
   unfolding fresh fresh-rows
-  not-admitted z e = rw (z, e)
+  not-admitted z e = refuses done.Refused w done.Ok (fresh-words p w) (fresh-rows p w) 2 (inr (rw z refl, inl (rw e refl, refl)))
 
   pub granted : size-ok w ≡ true → admitted p ≡ true → fresh p w ≡ record { reply = done.Ok; words = fresh-words p w }
   unfolding fresh fresh-rows
-  granted z e = rw (z, e)
+  granted z e = grants done.Refused w done.Ok (fresh-words p w) (fresh-rows p w) (rw z refl, (rw e refl, tt))

@@ -17,5 +17,6 @@ mod Requires
 -- of the calls
 mod FreshOutcome
 mod LocatedFacts
+mod GrantFacts
 mod CallSteps
 mod EstimateSteps

@@ -1,51 +1,53 @@
 -- What a call knows of a sheet behind the first rows of the table: the sheet's contents, and the lot of a number. Assumes nothing.
 use Prim.Native.Nat.{ℕ}
-use mathlib.Core.Path.{_≡_, refl, sym, ap}
-use mathlib.Core.Logic.{_≢_}
-use mathlib.Core.Bool.{Bool, true, false, cond, not}
+use mathlib.Core.Path.{_≡_, refl, sym, ap, _∙_}
+use mathlib.Core.Logic.{_≢_, _⊎_, inl, inr}
+use mathlib.Core.Bool.{true, false}
 use mathlib.Core.Option.{Option, none, some}
-use mathlib.Core.List.{List, [], _∷_, _++_}
+use mathlib.Core.List.{List, []}
 use native.Mathlib.Omega.{arith}
 use borrow.Author.Tests.{not-false}
-use Rattle.plan.specs.Refusal.{Refusal, first-refusal}
+use Rattle.plan.specs.Refusal.{Refusal, First, None-applies}
+use Rattle.plan.proofs.Refusals.{refused-exactly, first-refusals, first-append}
 use Rattle.sheet.specs.declared.survey.Found.{Found}
 use Rattle.sheet.specs.declared.survey.Surveyed.the-variants.{Corrupt, Intact}
+use Rattle.sheet.specs.declared.locating.Located.{Located}
 use Rattle.sheet.specs.declared.locating.Located.the-variants.{Refused, At}
 use Rattle.sheetmodel.specs.Layout.{size-ok}
 use Rattle.sheetmodel.specs.Contents.{Lot, Contents, find, records-of}
 use Rattle.sheetmodel.specs.Read.{read}
-use Rattle.sheetmodel.specs.Calls.{is-some, row, on-sheet, last-below}
+use Rattle.sheetmodel.specs.Rows.{lot-rows}
+use Rattle.sheetmodel.specs.Calls.{standing, sheet-rows, last-below}
 use Rattle.sheet.specs.Survey.{found, survey-of}
 use Rattle.sheet.specs.Locating.{found-on, located}
-use Rattle.sheetmodel.proofs.Promise.{None-applies}
+use Rattle.sheetmodel.proofs.Promise.{some-value, some-lot}
 use Rattle.sheet.proofs.Requires.{lot-after-header}
 
--- a refusal by the first rows is one by all of them
-module _ {A : Type 0} (refuse : ℕ → A) (granted : A) (rest : List Refusal) (f : Found) (n : ℕ) where
-  pub refused-by : (rows : List Refusal) → first-refusal Refused rows (At f) ≡ Refused n → first-refusal refuse (rows ++ rest) granted ≡ refuse n
-  refused-by [] e = let z : _≡_ {A = ℕ} 0 1 = cc in absurd (omega arith)
-  refused-by (r ∷ rows) e = go (refused-by rows) (r .when) e
-    where
-      go : (first-refusal Refused rows (At f) ≡ Refused n → first-refusal refuse (rows ++ rest) granted ≡ refuse n) →
-          (b : Bool) → cond b (Refused (r .number)) (first-refusal Refused rows (At f)) ≡ Refused n → cond b (refuse (r .number)) (first-refusal refuse (rows ++ rest) granted) ≡ refuse n
-      go later true e = let same : r .number ≡ n = cc in ap refuse same
-      go later false e = later e
+-- what the first rows refuse, and what they let through
+module _ (n : ℕ) (w : List ℕ) (others : List Refusal) where
+  pub refused-first : (r : ℕ) → located n w others ≡ Refused r → First (sheet-rows w others) r
+  refused-first r e = refused-exactly Located Refused (sheet-rows w others) (At (found-on n w)) (λ i j d. cc) (λ i d. let z : _≡_ {A = ℕ} 0 1 = cc in omega arith) r .0 e
 
--- what is found is found where no row applies
-module _ (f g : Found) where
-  found-by : (rows : List Refusal) → first-refusal Refused rows (At f) ≡ At g → None-applies rows × (f ≡ g)
-  found-by [] e = (tt, cc)
-  found-by (r ∷ rows) e = go (found-by rows) (r .when) refl e
-    where
-      go : (first-refusal Refused rows (At f) ≡ At g → None-applies rows × (f ≡ g)) →
-          (b : Bool) → r .when ≡ b → cond b (Refused (r .number)) (first-refusal Refused rows (At f)) ≡ At g → None-applies (r ∷ rows) × (f ≡ g)
-      go later true w e = let z : _≡_ {A = ℕ} 0 1 = cc in absurd (omega arith)
-      go later false w e = let x = later e in ((w, x .0), x .1)
+  refusing : (r : ℕ) → First (sheet-rows w others) r → located n w others ≡ Refused r
+  refusing r f = first-refusals .refuses Located Refused (sheet-rows w others) (At (found-on n w)) r f
 
-module _ {A : Type 0} where
-  is-there : (o : Option A) → not (is-some o) ≡ false → (a : A) × (o ≡ some a)
-  is-there none e = let z : _≡_ {A = ℕ} 0 1 = cc in absurd (omega arith)
-  is-there (some a) e = (a, refl)
+  finding : (f : Found) → None-applies (sheet-rows w others) → found-on n w ≡ f → located n w others ≡ At f
+  finding f e d = first-refusals .grants Located Refused (sheet-rows w others) (At (found-on n w)) e ∙ ap At d
+
+  found-by : (f : Found) → located n w others ≡ At f → None-applies (sheet-rows w others) × (found-on n w ≡ f)
+  found-by f e = go (first-refusals .either (sheet-rows w others))
+    where
+      go : ((m : ℕ) × First (sheet-rows w others) m) ⊎ None-applies (sheet-rows w others) → None-applies (sheet-rows w others) × (found-on n w ≡ f)
+      go (inl x) = let d = refusing (x .0) (x .1) in let z : _≡_ {A = ℕ} 0 1 = cc in absurd (omega arith)
+      go (inr x) = let d = finding (found-on n w) x refl in (x, cc)
+
+-- behind the rows of every sheet, on a sheet of a right size that is not corrupt
+module _ (w : List ℕ) (s : Contents) (size : size-ok w ≡ true) (reads : read w ≡ some s) (rows : List Refusal) where
+  pub behind : (m : ℕ) → First rows m → First (sheet-rows w rows) m
+  behind m f = inr (rw size refl, inr (rw reads refl, f))
+
+  pub all-behind : None-applies rows → None-applies (sheet-rows w rows)
+  all-behind e = (rw size refl, (rw reads refl, e))
 
 -- the sheet is whole, and f is what it has for n
 pub record Whole (n : ℕ) (w : List ℕ) (f : Found) : Type 0 where
@@ -67,13 +69,13 @@ module _ (n : ℕ) (w : List ℕ) where
   -- ---- what the tests say
 
   pub wrong-size : size-ok w ≡ false → located n w [] ≡ Refused 1
-  wrong-size z = rw z
+  wrong-size z = refusing n w [] 1 (inl (rw z refl, refl))
 
   pub corrupt : size-ok w ≡ true → survey-of n (read w) ≡ Corrupt → located n w [] ≡ Refused 3
   corrupt z e = go (read w) refl e
     where
       go : (o : Option Contents) → read w ≡ o → survey-of n o ≡ Corrupt → located n w [] ≡ Refused 3
-      go none r e = rw (z, r)
+      go none r e = refusing n w [] 3 (inr (rw z refl, inl (rw r refl, refl)))
       go (some s) r e = let y : _≡_ {A = ℕ} 0 1 = cc in absurd (omega arith)
 
   pub intact : (f : Found) → size-ok w ≡ true → survey-of n (read w) ≡ Intact f → located n w [] ≡ At f
@@ -83,14 +85,14 @@ module _ (n : ℕ) (w : List ℕ) where
       go none r e = let y : _≡_ {A = ℕ} 0 1 = cc in absurd (omega arith)
       go (some s) r e =
           let same : found n (find n (s .lots)) (last-below n 0 (s .lots)) (records-of (s .lots)) ≡ f = cc in
-          rw (z, r) (ap At same)
+          finding n w [] f (all-behind w s z r [] tt) (rw r same)
 
   -- ---- what follows
 
   pub whole : (f : Found) → located n w [] ≡ At f → Whole n w f
   whole f e =
-      let x = found-by (found-on n w) f (row 1 (not (size-ok w)) ∷ row 3 (not (is-some (read w))) ∷ []) e in
-      let s = is-there (read w) (x .0 .1 .0) in
+      let x = found-by n w [] f e in
+      let s = some-value (read w) (x .0 .1 .0) in
       record { size = not-false (size-ok w) (x .0 .0); contents = s .0; reads = s .1; is = sym (rw (s .1) at (x .1)) }
 
   -- a lot's record is not the header
@@ -111,18 +113,22 @@ module _ (n : ℕ) (w : List ℕ) where
         go none z = absurd (d (ap (λ (g : Found). g .at) (rw z at (k .is))))
         go (some l) z = (l, refl)
 
-    pub not-there : f .at ≡ 0 → located n w (row 6 (not (on-sheet n w)) ∷ []) ≡ Refused 6
-    not-there e = rw (k .size, k .reads, absent e)
+    pub not-there : f .at ≡ 0 → located n w (lot-rows (standing n w) []) ≡ Refused 6
+    not-there e = refusing n w (lot-rows (standing n w) []) 6 (behind w (k .contents) (k .size) (k .reads) (lot-rows (standing n w) []) 6 (inl (rw (k .reads, absent e) refl, refl)))
 
-    pub there : f .at ≢ 0 → located n w (row 6 (not (on-sheet n w)) ∷ []) ≡ At f
+    pub there : f .at ≢ 0 → located n w (lot-rows (standing n w) []) ≡ At f
     there d =
         let l = present d in
         let is : f ≡ found n (some (l .0)) (last-below n 0 (k .contents .lots)) (records-of (k .contents .lots)) = rw (l .1) at (k .is) in
-        rw (k .size, k .reads, l .1) (sym (ap At is))
+        finding n w (lot-rows (standing n w) []) f (all-behind w (k .contents) (k .size) (k .reads) (lot-rows (standing n w) []) (rw (k .reads, l .1) refl, tt)) (rw (k .reads, l .1) (sym is))
 
-  pub with-lot : (f : Found) → located n w (row 6 (not (on-sheet n w)) ∷ []) ≡ At f → With-lot n w f
+  -- a refusal by rows 1 and 3 is one by rows 1, 3 and 6
+  pub still-refused : (r : ℕ) → located n w [] ≡ Refused r → located n w (lot-rows (standing n w) []) ≡ Refused r
+  still-refused r e = refusing n w (lot-rows (standing n w) []) r (first-append (sheet-rows w []) (lot-rows (standing n w) []) r (refused-first n w [] r e))
+
+  pub with-lot : (f : Found) → located n w (lot-rows (standing n w) []) ≡ At f → With-lot n w f
   with-lot f e =
-      let x = found-by (found-on n w) f (row 1 (not (size-ok w)) ∷ row 3 (not (is-some (read w))) ∷ row 6 (not (on-sheet n w)) ∷ []) e in
-      let s = is-there (read w) (x .0 .1 .0) in
-      let l = is-there (find n (s .0 .lots)) (rw (s .1) at (x .0 .1 .1 .0)) in
+      let x = found-by n w (lot-rows (standing n w) []) f e in
+      let s = some-value (read w) (x .0 .1 .0) in
+      let l = some-lot (find n (s .0 .lots)) (rw (s .1) at (x .0 .1 .1 .0)) in
       record { size = not-false (size-ok w) (x .0 .0); contents = s .0; reads = s .1; lot = l .0; finds = l .1; is = sym (rw (s .1, l .1) at (x .1)) }

@@ -18,7 +18,8 @@ use Rattle.sheetmodel.specs.Layout.{size-ok, word, newest, next-unused, first-l
 use Rattle.sheetmodel.specs.Contents.{Inspection, Lot, Contents, history, find, records-of}
 use Rattle.sheetmodel.specs.Holds.{Inspections, Free, All-undecided-before, Holds}
 use Rattle.sheetmodel.specs.Read.{read, serial-at}
-use Rattle.sheetmodel.specs.Calls.{is-some, full, last-below, predecessor, lots-total, lot-answer}
+use Rattle.sheetmodel.specs.Rows.{is-some}
+use Rattle.sheetmodel.specs.Calls.{full, last-below, predecessor, lots-total, lot-answer}
 use Rattle.sheet.specs.Survey.{Sized}
 use Rattle.sheet.specs.Writes.{largest, In-words, Room, Freeing, Striking, Totals-fit, Closing, read-chain, lot-at}
 use Rattle.sheet.proofs.Sizes.{long-enough, short-enough}

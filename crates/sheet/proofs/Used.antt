@@ -8,7 +8,8 @@ use native.Mathlib.Omega.{arith}
 use lib.ListN.{length}
 use lib.Dec.{leb, ltb}
 use borrow.Author.Tests.{leb-true, ltb-true}
-use Rattle.sheetmodel.specs.Layout.{word, field, next-unused, first-record, highest-class}
+use Rattle.plan.specs.Sample.{highest-class}
+use Rattle.sheetmodel.specs.Layout.{word, field, next-unused, first-record}
 use Rattle.sheetmodel.specs.Read.{in-use}
 use Rattle.sheet.specs.Survey.{Sized, is-inspection, is-free, is-lot}
 

@@ -2,3 +2,4 @@ pub mod Survey
 pub mod Writes
 pub mod Locating
 pub mod Estimating
+pub mod Granting

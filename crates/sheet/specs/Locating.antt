@@ -12,6 +12,6 @@ use Rattle.sheet.specs.Survey.{found}
 abbrev pub found-on : ℕ → List ℕ → Found
 found-on n w = found n (find n (contents w .lots)) (predecessor n w) (records-of (contents w .lots))
 
--- refused by the rows of every sheet or by its own; else what is found
+-- refused by the rows of every sheet or by these others; else what is found
 abbrev pub located : ℕ → List ℕ → List Refusal → Located
-located n w own = first-refusal variants.Refused (sheet-rows w own) (variants.At (found-on n w))
+located n w others = first-refusal variants.Refused (sheet-rows w others) (variants.At (found-on n w))

@@ -19,7 +19,8 @@ use Rattle.sheet.specs.declared.chain.FreeChain.the-variants as free
 use Rattle.sheet.specs.declared.survey.Found.{Found}
 use Rattle.sheet.specs.declared.survey.Surveyed.{Surveyed}
 use Rattle.sheet.specs.declared.survey.Surveyed.the-variants as survey
-use Rattle.sheetmodel.specs.Layout.{word, field, records, next-unused, first-record, highest-class, free-tag, closed-lots, closed-units, most-closed}
+use Rattle.plan.specs.Sample.{highest-class}
+use Rattle.sheetmodel.specs.Layout.{word, field, records, next-unused, first-record, free-tag, closed-lots, closed-units, most-closed}
 use Rattle.sheetmodel.specs.Contents.{Inspection, Lot, Contents, classes, history, records-of, find}
 use Rattle.sheetmodel.specs.Read.{in-use, read-inspections, undecided, all-undecided-before}
 use Rattle.sheetmodel.specs.Calls.{last-below}

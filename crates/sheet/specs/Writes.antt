@@ -12,7 +12,8 @@ use Rattle.sheetmodel.specs.Layout.{word, field, newest, first-free, first-reco
 use Rattle.sheetmodel.specs.Contents.{Inspection, Lot, history}
 use Rattle.sheetmodel.specs.Read.{serial-at, depth, read-inspections}
 use Rattle.sheet.specs.Survey.{Sized}
-use Rattle.sheetmodel.specs.Calls.{is-some, new-record, lots-total, lot-answer}
+use Rattle.sheetmodel.specs.Rows.{is-some}
+use Rattle.sheetmodel.specs.Calls.{new-record, lots-total, lot-answer}
 
 abbrev pub largest : ℕ
 largest = 4294967295

@@ -14,9 +14,10 @@ ghost use mathlib.Core.List.{List};
 ghost use Prim.Native.Nat.{_+_, _≤_, _<_};
 ghost use Rattle.plan.specs.Plan.{Stage, stages, total, admitted, end-below};
 ghost use Rattle.plan.specs.Counts.{units, add-units};
-ghost use Rattle.sheetmodel.specs.Layout.{first-record, first-free, word, highest-class};
+ghost use Rattle.plan.specs.Sample.{highest-class};
+ghost use Rattle.sheetmodel.specs.Layout.{first-record, first-free, word};
 ghost use Rattle.sheetmodel.specs.Read.{in-use, serial-at, depth, read-inspections, read-free, undecided-before};
-ghost use Rattle.sheetmodel.specs.Calls.{is-some};
+ghost use Rattle.sheetmodel.specs.Rows.{is-some};
 ghost use Rattle.sheet.specs.Survey.{Sized, is-inspection, is-free, tested, chain-of, all-units, part-units, with-older, free-of};
 
 // A chain of inspections: damaged, or whole, with its units.
@@ -57,7 +58,7 @@ fn is_inspection(sheet: &[u32], lot: u32, serial: u32, at: u32) -> bool
         return false;
     }
     let r = record_at(sheet, at);
-    if 2 < r.a {
+    if plan::HIGHEST_CLASS < r.a {
         return false;
     }
     if r.c != lot {

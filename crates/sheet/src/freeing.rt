@@ -7,7 +7,8 @@ ghost use mathlib.Core.Path.{_≡_};
 ghost use Prim.Native.Nat.{_+_};
 ghost use mathlib.Core.Bool.{true};
 ghost use Rattle.sheetmodel.specs.Read.{depth};
-ghost use Rattle.sheetmodel.specs.Calls.{is-some, free-record, free-inspections};
+ghost use Rattle.sheetmodel.specs.Rows.{is-some};
+ghost use Rattle.sheetmodel.specs.Calls.{free-record, free-inspections};
 ghost use Rattle.sheet.specs.Writes.{In-words, Freeing, read-chain, chain};
 
 // The depth of the first free record; 0 if there is none.

@@ -5,11 +5,19 @@ use crate::record::field_of;
 ghost use mathlib.Core.Path.{_≡_};
 ghost use Prim.Native.Nat.{_≤_};
 ghost use lib.ListN.{length};
+ghost use Rattle.sheetmodel.specs.Rows.{record-rows};
 ghost use Rattle.sheetmodel.specs.Calls.{full, new-record, take-record};
+ghost use Rattle.sheet.specs.Granting.{grant-by};
 ghost use Rattle.sheet.specs.Writes.{Room};
 
+// A record that is needed: refused, or granted.
+pub enum Grant {
+    Refused(u32),
+    Record,
+}
+
 // Is no record free or unused?
-pub fn is_full(sheet: &[u32]) -> bool
+fn is_full(sheet: &[u32]) -> bool
     requires { ⌜ 48 ≤ length (now sheet) ⌝ }
     ensures { λ r. ⌜ r ≡ full (now (sheet .entry)) ⌝ }
 {
@@ -17,6 +25,17 @@ pub fn is_full(sheet: &[u32]) -> bool
         return false;
     }
     sheet.len() / 4 <= sheet[NEXT_UNUSED] as usize
+}
+
+// The rows about a record that is needed.
+pub fn grant_record(sheet: &[u32]) -> Grant
+    requires { ⌜ 48 ≤ length (now sheet) ⌝ }
+    ensures { λ r. ⌜ r ≡ grant-by (record-rows (full (now (sheet .entry)))) ⌝ }
+{
+    if is_full(sheet) {
+        return Grant::Refused(11);
+    }
+    Grant::Record
 }
 
 pub fn new_record(sheet: &[u32]) -> u32

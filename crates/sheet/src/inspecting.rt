@@ -1,5 +1,6 @@
 // The call inspect: one unit more of a lot, of this class. Document 01, "Sheet" and "Refused".
-use crate::granting::is_full;
+use crate::granting::Grant;
+use crate::granting::grant_record;
 use crate::locating::Located;
 use crate::locating::locate_lot;
 use crate::progress::answer_to;
@@ -17,17 +18,19 @@ pub fn inspect(sheet: &mut [u32], lot: u32, class: u32) -> Done
     match locate_lot(sheet, lot) {
         Located::Refused(n) => Done::Refused(n),
         Located::At(f) => {
-            if 2 < class {
+            if plan::HIGHEST_CLASS < class {
                 return Done::Refused(7);
             }
             if !is_undecided(answer_to(sheet, f.counts)) {
                 return Done::Refused(8);
             }
-            if is_full(sheet) {
-                return Done::Refused(11);
+            match grant_record(sheet) {
+                Grant::Refused(n) => Done::Refused(n),
+                Grant::Record => {
+                    add_inspection(sheet, f.at, units_of(f.counts), class);
+                    Done::Ok
+                }
             }
-            add_inspection(sheet, f.at, units_of(f.counts), class);
-            Done::Ok
         }
     }
 }

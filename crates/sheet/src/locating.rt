@@ -4,9 +4,9 @@ use crate::survey::Found;
 use crate::survey::Surveyed;
 use crate::survey::survey;
 ghost use mathlib.Core.Path.{_≡_};
-ghost use mathlib.Core.List.{[], _∷_};
-ghost use mathlib.Core.Bool.{not};
-ghost use Rattle.sheetmodel.specs.Calls.{row, on-sheet};
+ghost use mathlib.Core.List.{[]};
+ghost use Rattle.sheetmodel.specs.Rows.{lot-rows};
+ghost use Rattle.sheetmodel.specs.Calls.{standing};
 ghost use Rattle.sheet.specs.Locating.{located};
 
 // Refused, or what is found for the number.
@@ -30,7 +30,7 @@ pub fn locate(sheet: &[u32], lot: u32) -> Located
 
 // Rows 1, 3 and 6.
 pub fn locate_lot(sheet: &[u32], lot: u32) -> Located
-    ensures { λ r. ⌜ r ≡ located lot (now (sheet .entry)) (row 6 (not (on-sheet lot (now (sheet .entry)))) ∷ []) ⌝ }
+    ensures { λ r. ⌜ r ≡ located lot (now (sheet .entry)) (lot-rows (standing lot (now (sheet .entry))) []) ⌝ }
 {
     match locate(sheet, lot) {
         Located::Refused(n) => Located::Refused(n),

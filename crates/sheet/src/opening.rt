@@ -1,5 +1,6 @@
 // The call open: a new lot of this number. Document 01, "Sheet" and "Refused".
-use crate::granting::is_full;
+use crate::granting::Grant;
+use crate::granting::grant_record;
 use crate::locating::Located;
 use crate::locating::locate;
 use crate::writing::add_lot;
@@ -20,11 +21,13 @@ pub fn open(sheet: &mut [u32], lot: u32) -> Done
             if f.at != 0 {
                 return Done::Refused(5);
             }
-            if is_full(sheet) {
-                return Done::Refused(11);
+            match grant_record(sheet) {
+                Grant::Refused(n) => Done::Refused(n),
+                Grant::Record => {
+                    add_lot(sheet, lot, f.before);
+                    Done::Ok
+                }
             }
-            add_lot(sheet, lot, f.before);
-            Done::Ok
         }
     }
 }

@@ -10,9 +10,8 @@ use plan::Counts;
 ghost use mathlib.Core.Path.{_≡_};
 ghost use Prim.Native.Nat.{_+_, _≤_, _<_};
 ghost use lib.ListN.{length};
-ghost use lib.Dec.{leb};
-ghost use Rattle.sheetmodel.specs.Layout.{word, most-closed, closed-lots};
-ghost use Rattle.sheetmodel.specs.Calls.{add-to, lots-total, add-totals};
+ghost use Rattle.sheetmodel.specs.Layout.{word};
+ghost use Rattle.sheetmodel.specs.Calls.{tally-full, add-to, lots-total, add-totals};
 ghost use Rattle.sheet.specs.Writes.{largest, Totals-fit};
 
 // The total that counts a lot closed with this answer. An undecided lot is never closed.
@@ -36,7 +35,7 @@ fn add_to(sheet: &mut [u32], i: usize, n: u32)
 // Are as many lots closed as the totals may count?
 pub fn are_full(sheet: &[u32]) -> bool
     requires { ⌜ 48 ≤ length (now sheet) ⌝ }
-    ensures { λ r. ⌜ r ≡ leb most-closed (closed-lots (now (sheet .entry))) ⌝ }
+    ensures { λ r. ⌜ r ≡ tally-full (now (sheet .entry)) ⌝ }
 {
     MOST_CLOSED <= sheet[ACCEPTED_LOTS] as u64 + sheet[REJECTED_LOTS] as u64
 }

@@ -5,10 +5,10 @@ pub use Rattle.sheetmodel.proofs.HistoryLaws.{classes-cons, fact, goes-
 pub use Rattle.sheetmodel.proofs.Reading.{depths, reads, reads-inspections, serials, sound-free, sound-inspections, sound-lots}
 pub use Rattle.sheetmodel.proofs.Lots.{Prior, find-above, prior-header, records-of-parts}
 pub use Rattle.sheetmodel.proofs.Records.{took}
-pub use Rattle.sheetmodel.proofs.Outcomes.{None-applies}
+pub use Rattle.sheetmodel.proofs.Outcomes.{refuses, grants}
 pub use Rattle.sheetmodel.proofs.Standing.{is-history}
 pub use Rattle.sheetmodel.proofs.Invariant.{undecided-from}
-pub use Rattle.sheetmodel.proofs.Change.{Found, find-lot}
+pub use Rattle.sheetmodel.proofs.Change.{Found, find-lot, some-lot, some-value, no-lot}
 pub use Rattle.sheetmodel.proofs.Opened.{within}
 pub use Rattle.sheetmodel.proofs.Closed.{Added, Totalled, added, totalled}
 pub use Rattle.sheetmodel.proofs.FreshSheet.{same-length, zero-word}

@@ -10,7 +10,8 @@ use lib.Seq.{getD-take, getD-drop}
 use lib.Dec.{leb, ltb, eqb}
 use borrow.Author.Tests.{le-leb, lt-ltb, eq-eqb, ne-eqb, leb-true, ltb-true, eqb-true}
 use Rattle.plan.specs.Plan.{stages}
-use Rattle.sheetmodel.specs.Layout.{word, field, next, newest, records, next-unused, first-lot, first-free, stage-count, plan-start, plan-room, plan-words, unused-stages, closed-lots, closed-units, free-tag, highest-class, most-closed}
+use Rattle.sheetmodel.specs.Layout.{word, field, next, newest, records, next-unused, first-lot, first-free, stage-count, plan-start, plan-room, plan-words, unused-stages, closed-lots, closed-units, free-tag, most-closed}
+use Rattle.plan.specs.Sample.{highest-class}
 use Rattle.sheetmodel.specs.Contents.{Inspection, Lot, Contents, records-of}
 use Rattle.sheetmodel.specs.Holds.{Inspections, Lots, Free, Holds}
 use Rattle.sheetmodel.specs.Read.{guard, then, serial-at, depth, in-use, read-inspections, read-free, read-lots, read-from, all-undecided-before, all-zero, header-ok, contents-ok, Reads-exactly}

@@ -12,7 +12,8 @@ use Rattle.plan.specs.Counts.{counts}
 use Rattle.plan.specs.Stopping.{earliest}
 use Rattle.plan.specs.Sample.{Classes, All-have}
 use Rattle.plan.specs.Promise.{History}
-use Rattle.plan.proofs.Promise.{promise, counting}
+use Rattle.plan.proofs.Promise.{promise}
+use Rattle.plan.proofs.Sample.{classing}
 use Rattle.sheetmodel.specs.Layout.{next}
 use Rattle.sheetmodel.specs.Contents.{Inspection, classes}
 use Rattle.sheetmodel.specs.Holds.{Inspections, Undecided-before}
@@ -20,8 +21,9 @@ use Rattle.sheetmodel.specs.Demand3.{Right-answer}
 use Rattle.sheetmodel.proofs.HistoryLaws.{classes-cons}
 
 known : (start : ℕ) (w : List ℕ) (hi lot at : ℕ) (is : List Inspection) → Inspections start w hi lot is at → Classes (classes is)
-known start w hi lot at [] h = tt
-known start w hi lot at (i ∷ is) h = rw (classes-cons i is) (counting .appended (classes is) (i .class ∷ []) (known start w hi lot (next w (i .at)) is (h .1)) (h .0 .known, tt))
+known start w hi lot at [] h = classing .none
+known start w hi lot at (i ∷ is) h =
+    rw (classes-cons i is) (classing .appended (classes is) (i .class ∷ []) (known start w hi lot (next w (i .at)) is (h .1)) (classing .more (i .class) [] (h .0 .known) (classing .none)))
 
 pub is-history : (p : List Stage) (start : ℕ) (w : List ℕ) (hi lot at : ℕ) (is : List Inspection) → Inspections start w hi lot is at → Undecided-before p (classes is) → History p (classes is)
 is-history p start w hi lot at is h o = record { classes = known start w hi lot at is h; undecided-before = o }

@@ -1,8 +1,7 @@
 -- Estimates. Document 01, "Lists, events, estimates"; 002, 8.3.
 use Prim.Native.Nat.{ℕ, _-_}
-use mathlib.Core.List.{List, [], _∷_}
+use mathlib.Core.List.{List}
 use lib.ListN.{length}
-use lib.Dec.{ltb}
 use Rattle.plan.specs.Plan.{Stage, stages}
 use Rattle.plan.specs.Counts.{counts}
 use Rattle.plan.specs.Refusal.{Refusal}
@@ -11,8 +10,8 @@ use Rattle.sheetmodel.specs.declared.reply.Estimated.{Estimated}
 use Rattle.sheetmodel.specs.declared.reply.Estimated.the-variants as estimated
 use Rattle.sheetmodel.specs.Layout.{plan-words}
 use Rattle.sheetmodel.specs.Contents.{history}
-use Rattle.sheetmodel.specs.Read.{undecided}
-use Rattle.sheetmodel.specs.Calls.{Outcome, outcome, row, lot-rows, lot, lot-answer}
+use Rattle.sheetmodel.specs.Rows.{lot-rows, estimate-own}
+use Rattle.sheetmodel.specs.Calls.{Outcome, outcome, sheet-rows, standing, lot}
 use Rattle.sheetmodel.specs.History.{without-last}
 
 -- each class's count among the units before the last, over their number; four zeros for one unit. A plan of one stage needs
@@ -26,8 +25,7 @@ estimate-of p h = record {
 }
 
 unfoldable pub estimate-rows : ℕ → List ℕ → List Refusal
-estimate-rows n w =
-    lot-rows n w (row 10 (undecided (lot-answer w (lot n w))) ∷ row 15 (ltb 1 (length (stages (plan-words w)))) ∷ [])
+estimate-rows n w = sheet-rows w (lot-rows (standing n w) (estimate-own (plan-words w) (standing n w)))
 
 -- estimate writes nothing
 unfoldable pub estimate : ℕ → List ℕ → Outcome Estimated

@@ -10,7 +10,8 @@ use Rattle.plan.specs.declared.stage.Answer.the-variants.{GoOn}
 use Rattle.plan.specs.Plan.{Stage, stages, admitted}
 use Rattle.plan.specs.Counts.{counts}
 use Rattle.plan.specs.Stopping.{earliest}
-use Rattle.sheetmodel.specs.Layout.{word, field, next, newest, records, next-unused, first-lot, first-free, stage-count, plan-start, plan-room, plan-words, closed-lots, closed-units, free-tag, highest-class, most-closed}
+use Rattle.sheetmodel.specs.Layout.{word, field, next, newest, records, next-unused, first-lot, first-free, stage-count, plan-start, plan-room, plan-words, closed-lots, closed-units, free-tag, most-closed}
+use Rattle.plan.specs.Sample.{highest-class}
 use Rattle.sheetmodel.specs.Contents.{Inspection, Lot, Contents, history, records-of}
 
 -- the index `at` is that of the inspection i of the lot at `lot`, with the serial n

@@ -105,9 +105,5 @@ put-record w j a b c d = put (put (put (put w j 0 a) j 1 b) j 2 c) j 3 d
 abbrev pub free-tag : ℕ
 free-tag = 4294967295
 
--- the highest class that a unit may have
-abbrev pub highest-class : ℕ
-highest-class = 2
-
 abbrev pub most-closed : ℕ
 most-closed = 4000000

@@ -13,7 +13,8 @@ use Rattle.plan.specs.declared.stage.Answer.the-variants.{GoOn, Accept, Reject}
 use Rattle.plan.specs.Plan.{Stage, stages, admitted}
 use Rattle.plan.specs.Counts.{counts}
 use Rattle.plan.specs.Stopping.{earliest}
-use Rattle.sheetmodel.specs.Layout.{word, field, next, newest, records, next-unused, first-lot, first-free, first-record, plan-words, unused-stages, closed-lots, closed-units, free-tag, highest-class, most-closed}
+use Rattle.sheetmodel.specs.Layout.{word, field, next, newest, records, next-unused, first-lot, first-free, first-record, plan-words, unused-stages, closed-lots, closed-units, free-tag, most-closed}
+use Rattle.plan.specs.Sample.{highest-class}
 use Rattle.sheetmodel.specs.Holds.{Holds}
 use Rattle.sheetmodel.specs.Contents.{Inspection, Lot, Contents, classes, records-of}
 

@@ -1,6 +1,6 @@
--- What the calls reply, in document 01's terms: a refusal is its number and nothing more, and a granted call gives values.
-use Prim.Native.Nat.{ℕ}
-use mathlib.Core.List.{List, [], _∷_}
+-- What the calls on a sheet reply, in document 01's terms.
+use mathlib.Core.List.{[], _∷_}
+use Rattle.plan.specs.Reply.{Reply, granted, refused}
 use Rattle.plan.specs.Stopping.{state}
 use Rattle.sheetmodel.specs.declared.reply.Done.{Done}
 use Rattle.sheetmodel.specs.declared.reply.Done.the-variants as done
@@ -10,10 +10,6 @@ use Rattle.sheetmodel.specs.declared.reply.Estimated.{Estimated}
 use Rattle.sheetmodel.specs.declared.reply.Estimated.the-variants as estimated
 use Rattle.sheetmodel.specs.declared.reply.Tallied.{Tallied}
 use Rattle.sheetmodel.specs.declared.reply.Tallied.the-variants as tallied
-
-pub data Reply : Type 0 where
-  granted : List ℕ → Reply
-  refused : ℕ → Reply
 
 -- ok gives no value
 abbrev pub done-reply : Done → Reply

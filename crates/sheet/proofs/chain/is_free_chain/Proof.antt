@@ -5,7 +5,7 @@ use borrow.Author.Needs.{needs}
 use borrow.Author.Tests.{not-true, not-false}
 use Rattle.sheetmodel.specs.Layout.{first-record}
 use Rattle.sheetmodel.specs.Read.{read-free}
-use Rattle.sheetmodel.specs.Calls.{is-some}
+use Rattle.sheetmodel.specs.Rows.{is-some}
 use Rattle.sheet.proofs.Used.{free-within}
 use Rattle.sheet.proofs.FreeSteps.{ended, not-free, next-free}
 use Rattle.sheet.proofs.chain.is_free_chain.Statement.{statement}

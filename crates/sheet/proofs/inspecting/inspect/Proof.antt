@@ -1,10 +1,14 @@
 -- `sheet::inspect` meets its contract: the tests are in the order of the table. Assumes nothing.
-use mathlib.Core.Path.{refl, sym, ap, _∙_}
+use mathlib.Core.Path.{_≡_, refl, sym, ap, _∙_}
+use mathlib.Core.Bool.{true}
 use borrow.Author.Needs.{needs}
 use borrow.Author.Tests.{not-true, not-false}
+use Rattle.plan.specs.Plan.{stages}
+use Rattle.plan.specs.Stopping.{earliest}
+use Rattle.sheetmodel.specs.Layout.{plan-words}
 use Rattle.sheetmodel.specs.Read.{undecided}
 use Rattle.sheet.proofs.LocatedFacts.{With-lot, with-lot}
-use Rattle.sheet.proofs.CallSteps.{answer-requires, long, few, inspect-refused, inspect-class, inspect-decided, inspect-full, inspect-requires, inspect-granted}
+use Rattle.sheet.proofs.CallSteps.{answer-requires, long, few, inspect-refused, inspect-class, inspect-decided, inspect-denied, inspect-requires, inspect-granted}
 use Rattle.sheet.proofs.inspecting.inspect.Statement.{statement}
 use Rattle.sheet.proofs.inspecting.inspect.Tie as tie
 
@@ -15,67 +19,77 @@ facts c =
     let f = c .before .f .given in
     with-lot (x .args .lot) (x .args .sheet .now) (f .0 .0) (sym (c .before .before .before .locate-lot .ensures) ∙ f .1)
 
+-- and once it is undecided
+goes-on : (c : tie.Else2) → let k = c .before .before .before .before .before in let x = k .before .before .before .before .before .before in
+    undecided (earliest (stages (plan-words (x .args .sheet .now))) (k .before .f .given .0 .0 .counts)) ≡ true
+goes-on c = sym (ap undecided (c .before .before .answer-to .ensures)) ∙ sym (c .before .is-undecided .ensures) ∙ not-false _ (c .if2 .left)
+
 returns : tie.Need-returns
 returns c =
     let k = c .before in
     let x = k .before .before .before .before .before .before in
-    let f = k .before .f .given .0 .0 in
-    rw (inspect-class (x .args .lot) (x .args .class) (x .args .sheet .now) f (facts k) (c .if1 .taken)) (refl, refl)
+    rw (inspect-class (x .args .lot) (x .args .class) (x .args .sheet .now) (k .before .f .given .0 .0) (facts k) (c .if1 .taken)) (refl, refl)
 
 answer-to-requires : tie.Need-answer-to-requires
 answer-to-requires c κs =
     let k = c .before .before in
     let x = k .before .before .before .before .before .before in
-    let f = k .before .f .given .0 .0 in
-    answer-requires (x .args .lot) (x .args .sheet .now) f (facts k)
+    answer-requires (x .args .lot) (x .args .sheet .now) (k .before .f .given .0 .0) (facts k)
 
 returns-2 : tie.Need-returns-2
 returns-2 c =
     let k = c .before .before .before .before .before in
     let x = k .before .before .before .before .before .before in
-    let f = k .before .f .given .0 .0 in
-    rw (inspect-decided (x .args .lot) (x .args .class) (x .args .sheet .now) f (facts k) (c .before .before .before .before .if1 .left) (sym (ap undecided (c .before .before .answer-to .ensures)) ∙ sym (c .before .is-undecided .ensures) ∙ not-true _ (c .if2 .taken))) (refl, refl)
+    rw (inspect-decided (x .args .lot) (x .args .class) (x .args .sheet .now) (k .before .f .given .0 .0) (facts k) (c .before .before .before .before .if1 .left)
+    (sym (ap undecided (c .before .before .answer-to .ensures)) ∙ sym (c .before .is-undecided .ensures) ∙ not-true _ (c .if2 .taken))) (refl, refl)
 
-is-full-requires : tie.Need-is-full-requires
-is-full-requires c κs =
+grant-record-requires : tie.Need-grant-record-requires
+grant-record-requires c κs =
     let k = c .before .before .before .before .before .before in
     let x = k .before .before .before .before .before .before in
-    let f = k .before .f .given .0 .0 in
-    long (x .args .lot) (x .args .sheet .now) f (facts k)
-
-returns-3 : tie.Need-returns-3
-returns-3 c =
-    let k = c .before .before .before .before .before .before .before .before in
-    let x = k .before .before .before .before .before .before in
-    let f = k .before .f .given .0 .0 in
-    rw (inspect-full (x .args .lot) (x .args .class) (x .args .sheet .now) f (facts k) (c .before .before .before .before .before .before .before .if1 .left) (sym (ap undecided (c .before .before .before .before .before .answer-to .ensures)) ∙ sym (c .before .before .before .before .is-undecided .ensures) ∙ not-false _ (c .before .before .before .if2 .left)) (sym (c .before .is-full .ensures) ∙ c .if3 .taken)) (refl, refl)
+    long (x .args .lot) (x .args .sheet .now) (k .before .f .given .0 .0) (facts k)
 
 units-of-requires : tie.Need-units-of-requires
 units-of-requires c κs =
-    let k = c .before .before .before .before .before .before .before .before .before in
+    let d = c .before .before .before .before .before in
+    let k = d .before .before .before .before .before in
     let x = k .before .before .before .before .before .before in
-    let f = k .before .f .given .0 .0 in
-    few (x .args .lot) (x .args .sheet .now) f (facts k)
+    few (x .args .lot) (x .args .sheet .now) (k .before .f .given .0 .0) (facts k)
 
 add-inspection-requires : tie.Need-add-inspection-requires
 add-inspection-requires c κs =
-    let k = c .before .before .before .before .before .before .before .before .before .before in
+    let m = c .before .before in
+    let g = m .before .before in
+    let d = g .before .before in
+    let k = d .before .before .before .before .before in
     let x = k .before .before .before .before .before .before in
-    let f = k .before .f .given .0 .0 in
-    rw (c .units-of .ensures) (inspect-requires (x .args .lot) (x .args .class) (x .args .sheet .now) f (facts k) (sym (c .before .before .before .is-full .ensures) ∙ c .before .before .if3 .left))
+    rw (c .units-of .ensures) (inspect-requires (x .args .lot) (x .args .class) (x .args .sheet .now) (k .before .f .given .0 .0) (facts k) (sym (g .grant-record .ensures) ∙ m .enum-told .given .1))
 
-returns-4 : tie.Need-returns-4
-returns-4 c =
+returns-3 : tie.Need-returns-3
+returns-3 c =
     let x = c .before .before .before .before .before .before in
     let n = c .before .n .given in
     rw (inspect-refused (x .args .lot) (x .args .class) (x .args .sheet .now) (n .0 .0) (sym (c .before .before .before .locate-lot .ensures) ∙ n .1)) (refl, refl)
 
+returns-4 : tie.Need-returns-4
+returns-4 c =
+    let n = c .before .n2 .given in
+    let g = c .before .before .before in
+    let d = g .before .before in
+    let k = d .before .before .before .before .before in
+    let x = k .before .before .before .before .before .before in
+    rw (inspect-denied (x .args .lot) (x .args .class) (x .args .sheet .now) (k .before .f .given .0 .0) (facts k) (d .before .before .before .before .if1 .left) (goes-on d) (n .0 .0) (sym (g .grant-record .ensures) ∙ n .1))
+    (refl, refl)
+
 returns-5 : tie.Need-returns-5
 returns-5 c =
-    let k = c .before .before .before .before .before .before .before .before .before .before .before .before .before in
+    let m = c .before .before .before .before .before in
+    let g = m .before .before in
+    let d = g .before .before in
+    let k = d .before .before .before .before .before in
     let x = k .before .before .before .before .before .before in
-    let f = k .before .f .given .0 .0 in
-    rw (inspect-granted (x .args .lot) (x .args .class) (x .args .sheet .now) f (facts k) (c .before .before .before .before .before .before .before .before .before .before .before .before .if1 .left) (sym (ap undecided (c .before .before .before .before .before .before .before .before .before .before .answer-to .ensures)) ∙ sym (c .before .before .before .before .before .before .before .before .before .is-undecided .ensures) ∙ not-false _ (c .before .before .before .before .before .before .before .before .if2 .left)) (sym (c .before .before .before .before .before .before .is-full .ensures) ∙ c .before .before .before .before .before .if3 .left)) (refl, rw (c .before .before .before .units-of .ensures) at (c .before .before .add-inspection .ensures))
+    rw (inspect-granted (x .args .lot) (x .args .class) (x .args .sheet .now) (k .before .f .given .0 .0) (facts k) (d .before .before .before .before .if1 .left) (goes-on d) (sym (g .grant-record .ensures) ∙ m .enum-told .given .1))
+    (refl, rw (c .before .before .before .units-of .ensures) at (c .before .before .add-inspection .ensures))
 
 pub inspect-spec : {M : Type 1} → statement M
 inspect-spec =
@@ -90,11 +104,13 @@ inspect-spec =
     (λ c κs. search needs)
     (λ c. search needs)
     returns-2
-    is-full-requires
+    grant-record-requires
     (λ c. search needs)
-    returns-3
+    (λ c. search needs)
     units-of-requires
     add-inspection-requires
+    (λ c. search needs)
+    returns-3
     (λ c. search needs)
     returns-4
     (λ c. search needs)

@@ -1,13 +1,7 @@
 -- `sheet::locate_lot` meets its contract: no lot is in record 0. Assumes nothing.
 use mathlib.Core.Path.{sym, _∙_}
-use mathlib.Core.Bool.{not}
-use mathlib.Core.List.{[], _∷_}
 use borrow.Author.Needs.{needs}
-use Rattle.sheet.specs.declared.locating.Located.the-variants.{Refused, At}
-use Rattle.sheetmodel.specs.Layout.{size-ok}
-use Rattle.sheetmodel.specs.Calls.{row, on-sheet, corrupt}
-use Rattle.sheet.specs.Locating.{found-on}
-use Rattle.sheet.proofs.LocatedFacts.{refused-by, whole, not-there, there}
+use Rattle.sheet.proofs.LocatedFacts.{still-refused, whole, not-there, there}
 use Rattle.sheet.proofs.locating.locate_lot.Statement.{statement}
 use Rattle.sheet.proofs.locating.locate_lot.Tie as tie
 
@@ -24,7 +18,7 @@ returns-2 c =
     let n = c .before .n .given in
     let w = s .before .before .args .sheet .now in
     let lot = s .before .before .args .lot in
-    sym (refused-by Refused (At (found-on lot w)) (row 6 (not (on-sheet lot w)) ∷ []) (found-on lot w) (n .0 .0) (row 1 (not (size-ok w)) ∷ row 3 (corrupt w) ∷ []) (sym (s .locate .ensures) ∙ n .1))
+    sym (still-refused lot w (n .0 .0) (sym (s .locate .ensures) ∙ n .1))
 
 returns-3 : tie.Need-returns-3
 returns-3 c =

@@ -1,9 +1,9 @@
 -- `sheet::open` meets its contract: the tests are in the order of the table. Assumes nothing.
-use mathlib.Core.Path.{refl, sym, _∙_}
+use mathlib.Core.Path.{_≡_, refl, sym, _∙_}
 use borrow.Author.Needs.{needs}
 use Rattle.sheet.proofs.Sizes.{long-enough}
 use Rattle.sheet.proofs.LocatedFacts.{Whole, whole}
-use Rattle.sheet.proofs.CallSteps.{open-refused, open-zero, open-there, open-full, open-requires, open-granted}
+use Rattle.sheet.proofs.CallSteps.{open-refused, open-zero, open-there, open-denied, open-requires, open-granted}
 use Rattle.sheet.proofs.opening.open.Statement.{statement}
 use Rattle.sheet.proofs.opening.open.Tie as tie
 
@@ -18,49 +18,51 @@ returns : tie.Need-returns
 returns c =
     let k = c .before in
     let x = k .before .before .before .before .before .before in
-    let f = k .before .f .given .0 .0 in
-    rw (open-zero (x .args .lot) (x .args .sheet .now) f (facts k) (c .if1 .taken)) (refl, refl)
+    rw (open-zero (x .args .lot) (x .args .sheet .now) (k .before .f .given .0 .0) (facts k) (c .if1 .taken)) (refl, refl)
 
 returns-2 : tie.Need-returns-2
 returns-2 c =
     let k = c .before .before .before in
     let x = k .before .before .before .before .before .before in
-    let f = k .before .f .given .0 .0 in
-    rw (open-there (x .args .lot) (x .args .sheet .now) f (facts k) (c .before .before .if1 .left) (c .if2 .taken)) (refl, refl)
+    rw (open-there (x .args .lot) (x .args .sheet .now) (k .before .f .given .0 .0) (facts k) (c .before .before .if1 .left) (c .if2 .taken)) (refl, refl)
 
-is-full-requires : tie.Need-is-full-requires
-is-full-requires c κs =
+grant-record-requires : tie.Need-grant-record-requires
+grant-record-requires c κs =
     let k = c .before .before .before .before in
     let x = k .before .before .before .before .before .before in
-    let f = k .before .f .given .0 .0 in
     long-enough (x .args .sheet .now) (facts k .size)
-
-returns-3 : tie.Need-returns-3
-returns-3 c =
-    let k = c .before .before .before .before .before .before in
-    let x = k .before .before .before .before .before .before in
-    let f = k .before .f .given .0 .0 in
-    rw (open-full (x .args .lot) (x .args .sheet .now) f (facts k) (c .before .before .before .before .before .if1 .left) (c .before .before .before .if2 .left) (sym (c .before .is-full .ensures) ∙ c .if3 .taken)) (refl, refl)
 
 add-lot-requires : tie.Need-add-lot-requires
 add-lot-requires c κs =
-    let k = c .before .before .before .before .before .before .before in
+    let g = c .before .before .before in
+    let k = g .before .before .before .before .before in
     let x = k .before .before .before .before .before .before in
-    let f = k .before .f .given .0 .0 in
-    open-requires (x .args .lot) (x .args .sheet .now) f (facts k) (sym (c .before .before .is-full .ensures) ∙ c .before .if3 .left)
+    open-requires (x .args .lot) (x .args .sheet .now) (k .before .f .given .0 .0) (facts k) (sym (g .grant-record .ensures) ∙ c .before .enum-told .given .1)
 
-returns-4 : tie.Need-returns-4
-returns-4 c =
+returns-3 : tie.Need-returns-3
+returns-3 c =
     let x = c .before .before .before .before .before .before in
     let n = c .before .n .given in
     rw (open-refused (x .args .lot) (x .args .sheet .now) (n .0 .0) (sym (c .before .before .before .locate .ensures) ∙ n .1)) (refl, refl)
 
+returns-4 : tie.Need-returns-4
+returns-4 c =
+    let n = c .before .n2 .given in
+    let g = c .before .before .before in
+    let d = g .before .before in
+    let k = d .before .before .before in
+    let x = k .before .before .before .before .before .before in
+    rw (open-denied (x .args .lot) (x .args .sheet .now) (k .before .f .given .0 .0) (facts k) (d .before .before .if1 .left) (d .if2 .left) (n .0 .0) (sym (g .grant-record .ensures) ∙ n .1)) (refl, refl)
+
 returns-5 : tie.Need-returns-5
 returns-5 c =
-    let k = c .before .before .before .before .before .before .before .before .before .before in
+    let m = c .before .before .before .before in
+    let g = m .before .before in
+    let d = g .before .before in
+    let k = d .before .before .before in
     let x = k .before .before .before .before .before .before in
-    let f = k .before .f .given .0 .0 in
-    rw (open-granted (x .args .lot) (x .args .sheet .now) f (facts k) (c .before .before .before .before .before .before .before .before .before .if1 .left) (c .before .before .before .before .before .before .before .if2 .left) (sym (c .before .before .before .before .before .is-full .ensures) ∙ c .before .before .before .before .if3 .left)) (refl, c .before .before .add-lot .ensures)
+    rw (open-granted (x .args .lot) (x .args .sheet .now) (k .before .f .given .0 .0) (facts k) (d .before .before .if1 .left) (d .if2 .left) (sym (g .grant-record .ensures) ∙ m .enum-told .given .1))
+    (refl, c .before .before .add-lot .ensures)
 
 pub open-spec : {M : Type 1} → statement M
 open-spec =
@@ -73,10 +75,12 @@ open-spec =
     returns
     (λ c. search needs)
     returns-2
-    is-full-requires
+    grant-record-requires
+    (λ c. search needs)
+    (λ c. search needs)
+    add-lot-requires
     (λ c. search needs)
     returns-3
-    add-lot-requires
     (λ c. search needs)
     returns-4
     (λ c. search needs)

@@ -3,7 +3,7 @@
 use mathlib.Core.Path.{_≡_, ap}
 use native.Mathlib.Omega.{arith}
 use borrow.Author.Needs.{needs}
-use Rattle.sheetmodel.specs.Calls.{is-some}
+use Rattle.sheetmodel.specs.Rows.{is-some}
 use Rattle.sheet.proofs.Unlinked.{unlinked-lot, chain-kept, still-closing, closed-words}
 use Rattle.sheet.proofs.writing.remove_lot.Statement.{statement}
 use Rattle.sheet.proofs.writing.remove_lot.Tie as tie
