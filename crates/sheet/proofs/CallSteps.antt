@@ -23,7 +23,7 @@ use Rattle.sheet.specs.declared.survey.Found.{Found}
 use Rattle.sheet.specs.declared.locating.Located.the-variants.{Refused}
 use Rattle.sheet.specs.declared.granting.Grant.the-variants as grant
 use Rattle.plan.specs.Sample.{highest-class}
-use Rattle.sheetmodel.specs.Layout.{newest, plan-words, totals, closed-lots, most-closed}
+use Rattle.sheetmodel.specs.Layout.{least-size, newest, plan-words, totals, closed-lots, most-closed}
 use Rattle.sheetmodel.specs.Contents.{Lot, history, find, records-of}
 use Rattle.sheetmodel.specs.Read.{undecided}
 use Rattle.sheetmodel.specs.Rows.{is-some, classes-in, answer-to, open-own, lot-rows, inspect-own, strike-own, close-own, record-rows, totals-rows}
@@ -100,7 +100,7 @@ module _ (n : ℕ) (w : List ℕ) (f : Found) (k : With-lot n w f) where
   units-are : units (f .counts) ≡ length (k .lot .inspections)
   units-are = ap units counts-are ∙ counting .length-of (history (k .lot)) ∙ length-classes (k .lot .inspections)
 
-  pub long : 48 ≤ length w
+  pub long : least-size ≤ length w
   long = long-enough w (k .size)
 
   pub lot-inside : In-words w (f .at)
@@ -109,7 +109,7 @@ module _ (n : ℕ) (w : List ℕ) (f : Found) (k : With-lot n w f) where
   pub few : units (f .counts) ≤ 1000
   few = rw counts-are (few-units w (k .contents) (k .size) (k .reads) n (k .lot) (k .finds))
 
-  pub answer-requires : (48 ≤ length w) × (admitted (plan-words w) ≡ true) × (units (f .counts) ≤ 1000)
+  pub answer-requires : (least-size ≤ length w) × (admitted (plan-words w) ≡ true) × (units (f .counts) ≤ 1000)
   answer-requires = (long, holds w (k .contents) (k .size) (k .reads) .plan, few)
 
   pub standing-is : standing n w ≡ some (history (k .lot))

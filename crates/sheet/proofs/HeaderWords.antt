@@ -10,19 +10,19 @@ use lib.Dec.{ltb}
 use borrow.Author.Tests.{ltb-true, ltb-false}
 use Rattle.plan.specs.Plan.{stages, admitted}
 use Rattle.plan.proofs.Promise.{shape}
-use Rattle.sheetmodel.specs.Layout.{word, first-record}
+use Rattle.sheetmodel.specs.Layout.{least-size, greatest-size, header-size, plan-start, word, first-record}
 use Rattle.sheetmodel.specs.Calls.{fresh-words}
 use Rattle.sheetmodel.proofs.Promise.{same-length, zero-word}
 
 -- the header's first i words after the stage count, and the old words from there on
 abbrev written-to : List ℕ → List ℕ → ℕ → List ℕ
-written-to p w i = take (4 + i) (fresh-words p w) ++ drop (4 + i) w
+written-to p w i = take (plan-start + i) (fresh-words p w) ++ drop (plan-start + i) w
 
 -- v is w with i words of the plan written
 pub record Written-to (p w v : List ℕ) (i : ℕ) : Type 0 where
-  pub long : 48 ≤ length w
-  pub short : length w ≤ 65536
-  pub within : i ≤ 40
+  pub long : least-size ≤ length w
+  pub short : length w ≤ greatest-size
+  pub within : i ≤ (header-size - plan-start)
   pub len : length v ≡ length w
   pub so-far : v ≡ written-to p w i
 
@@ -30,7 +30,7 @@ pub record Written-to (p w v : List ℕ) (i : ℕ) : Type 0 where
 abbrev pub first-words : List ℕ → ℕ → List ℕ
 first-words w k = set (set (set (set w 0 first-record) 1 0) 2 0) 3 k
 
-first-written : (p w : List ℕ) (k : ℕ) → 48 ≤ length w → k ≡ length (stages p) → (first-words w k ≡ written-to p (first-words w k) 0) × (drop 44 (first-words w k) ≡ drop 44 w)
+first-written : (p w : List ℕ) (k : ℕ) → least-size ≤ length w → k ≡ length (stages p) → (first-words w k ≡ written-to p (first-words w k) 0) × (drop header-size (first-words w k) ≡ drop header-size w)
 unfolding fresh-words
 first-written p (a ∷ b ∷ c ∷ d ∷ rest) k long e = (rw e, refl)
 first-written p [] k long e = absurd (omega arith)
@@ -38,7 +38,7 @@ first-written p (a ∷ []) k long e = absurd (omega arith)
 first-written p (a ∷ b ∷ []) k long e = absurd (omega arith)
 first-written p (a ∷ b ∷ c ∷ []) k long e = absurd (omega arith)
 
-pub begun : (p w : List ℕ) (k : ℕ) → 48 ≤ length w → length w ≤ 65536 → k ≡ length (stages p) → Written-to p (first-words w k) (first-words w k) 0
+pub begun : (p w : List ℕ) (k : ℕ) → least-size ≤ length w → length w ≤ greatest-size → k ≡ length (stages p) → Written-to p (first-words w k) (first-words w k) 0
 begun p w k long short e = record {
   long = simp length-set (omega arith);
   short = simp length-set (omega arith);
@@ -49,17 +49,17 @@ begun p w k long short e = record {
 
 module _ (p w : List ℕ) (adm : admitted p ≡ true) {v : List ℕ} {i : ℕ} (r : Written-to p w v i) where
   -- past the plan both are 0
-  plan-word : i < 40 → word (fresh-words p w) (4 + i) ≡ word p i
+  plan-word : i < (header-size - plan-start) → word (fresh-words p w) (plan-start + i) ≡ word p i
   unfolding fresh-words
   plan-word b = go (ltb i (length p)) refl
     where
-      go : (t : Bool) → ltb i (length p) ≡ t → word (fresh-words p w) (4 + i) ≡ word p i
-      go true e = sym (getD-drop 4 (fresh-words p w) i 0) ∙ List·getD-append p (replicate (44 - (4 + length p)) 0 ++ drop 44 w) 0 i (ltb-true i (length p) e)
+      go : (t : Bool) → ltb i (length p) ≡ t → word (fresh-words p w) (plan-start + i) ≡ word p i
+      go true e = sym (getD-drop 4 (fresh-words p w) i 0) ∙ List·getD-append p (replicate (header-size - (plan-start + length p)) 0 ++ drop header-size w) 0 i (ltb-true i (length p) e)
       go false e =
           let past = ltb-false i (length p) e in
           zero-word p w adm (r .long) (r .short) i past b ∙ sym (List·getD-eq-default p 0 past)
 
-  pub one-more : i < 40 → Written-to p w (set v (4 + i) (word p i)) (i + 1)
+  pub one-more : i < (header-size - plan-start) → Written-to p w (set v (plan-start + i) (word p i)) (i + 1)
   one-more b =
       let f = fresh-words p w in
       let k = 4 + i in
@@ -79,20 +79,20 @@ module _ (p w : List ℕ) (adm : admitted p ≡ true) {v : List ℕ} {i : ℕ} (
             ap (λ (n : ℕ). take n f ++ drop n w) {x = suc k} {y = 4 + (i + 1)} (omega arith);
       }
 
-  tail : drop 44 (fresh-words p w) ≡ drop 44 w
+  tail : drop header-size (fresh-words p w) ≡ drop header-size w
   unfolding fresh-words
   tail =
-      let zeros : List ℕ = replicate (44 - (4 + length p)) 0 in
+      let zeros : List ℕ = replicate (header-size - (plan-start + length p)) 0 in
       let a = shape p adm in
-      ap (drop 40) (sym (append-assoc p zeros (drop 44 w))) ∙
-      drop-at (p ++ zeros) (drop 44 w) 40 (omega (arith, length-append p zeros, length-replicate {A = ℕ} (44 - (4 + length p)) 0))
+      ap (drop (header-size - plan-start)) (sym (append-assoc p zeros (drop header-size w))) ∙
+      drop-at (p ++ zeros) (drop header-size w) (header-size - plan-start) (omega (arith, length-append p zeros, length-replicate {A = ℕ} (header-size - (plan-start + length p)) 0))
 
-  pub all-written : 40 ≤ i → v ≡ fresh-words p w
+  pub all-written : (header-size - plan-start) ≤ i → v ≡ fresh-words p w
   all-written b =
-      r .so-far ∙ ap (λ (n : ℕ). written-to p w n) {x = i} {y = 40} (omega (arith, r .within)) ∙
-      ap (λ (u : List ℕ). take 44 (fresh-words p w) ++ u) (sym tail) ∙ take-append-drop 44 (fresh-words p w)
+      r .so-far ∙ ap (λ (n : ℕ). written-to p w n) {x = i} {y = (header-size - plan-start)} (omega (arith, r .within)) ∙
+      ap (λ (u : List ℕ). take header-size (fresh-words p w) ++ u) (sym tail) ∙ take-append-drop header-size (fresh-words p w)
 
 -- the words before the plan do not matter
-pub fresh-first : (p w : List ℕ) (k : ℕ) → 48 ≤ length w → k ≡ length (stages p) → fresh-words p (first-words w k) ≡ fresh-words p w
+pub fresh-first : (p w : List ℕ) (k : ℕ) → least-size ≤ length w → k ≡ length (stages p) → fresh-words p (first-words w k) ≡ fresh-words p w
 unfolding fresh-words
 fresh-first p w k long e = rw (first-written p w k long e .1)

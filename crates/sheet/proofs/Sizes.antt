@@ -7,10 +7,10 @@ use mathlib.Core.List.{List}
 use lib.ListN.{length}
 use lib.Dec.{leb}
 use borrow.Author.Tests.{leb-true}
-use Rattle.sheetmodel.specs.Layout.{size-ok}
+use Rattle.sheetmodel.specs.Layout.{least-size, greatest-size, size-ok}
 
-pub long-enough : (w : List ℕ) → size-ok w ≡ true → 48 ≤ length w
-long-enough w e = leb-true 48 (length w) (and-left (leb 48 (length w)) (leb (length w) 65536) e)
+pub long-enough : (w : List ℕ) → size-ok w ≡ true → least-size ≤ length w
+long-enough w e = leb-true least-size (length w) (and-left (leb least-size (length w)) (leb (length w) greatest-size) e)
 
-pub short-enough : (w : List ℕ) → size-ok w ≡ true → length w ≤ 65536
-short-enough w e = leb-true (length w) 65536 (and-right (leb 48 (length w)) (leb (length w) 65536) e)
+pub short-enough : (w : List ℕ) → size-ok w ≡ true → length w ≤ greatest-size
+short-enough w e = leb-true (length w) greatest-size (and-right (leb least-size (length w)) (leb (length w) greatest-size) e)

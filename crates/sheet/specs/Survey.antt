@@ -20,7 +20,7 @@ use Rattle.sheet.specs.declared.survey.Found.{Found}
 use Rattle.sheet.specs.declared.survey.Surveyed.{Surveyed}
 use Rattle.sheet.specs.declared.survey.Surveyed.the-variants as survey
 use Rattle.plan.specs.Sample.{highest-class}
-use Rattle.sheetmodel.specs.Layout.{word, field, records, next-unused, first-record, free-tag, closed-lots, closed-units, most-closed}
+use Rattle.sheetmodel.specs.Layout.{least-size, greatest-size, word, field, records, next-unused, first-record, free-tag, closed-lots, closed-units, most-closed}
 use Rattle.sheetmodel.specs.Contents.{Inspection, Lot, Contents, classes, history, records-of, find}
 use Rattle.sheetmodel.specs.Read.{in-use, read-inspections, undecided, all-undecided-before}
 use Rattle.sheetmodel.specs.Calls.{last-below}
@@ -31,8 +31,8 @@ record-at w j = record { a = field w j 0; b = field w j 1; c = field w j 2; d = 
 
 -- 48 to 65,536 words, and no record in use beyond them
 pub record Sized (w : List ℕ) : Type 0 where
-  pub long : 48 ≤ length w
-  pub short : length w ≤ 65536
+  pub long : least-size ≤ length w
+  pub short : length w ≤ greatest-size
   pub room : word w next-unused ≤ records w
 
 -- the totals are within their bounds

@@ -8,7 +8,7 @@ use lib.ListN.{length}
 use Rattle.plan.specs.declared.counts.Counts.{Counts}
 use Rattle.plan.specs.declared.stage.Answer.{Answer}
 use Rattle.plan.specs.Counts.{counts}
-use Rattle.sheetmodel.specs.Layout.{word, field, newest, first-free, first-record, good-units, marginal-units, bad-units}
+use Rattle.sheetmodel.specs.Layout.{least-size, greatest-size, word, field, newest, first-free, first-record, good-units, marginal-units, bad-units}
 use Rattle.sheetmodel.specs.Contents.{Inspection, Lot, history}
 use Rattle.sheetmodel.specs.Read.{serial-at, depth, read-inspections}
 use Rattle.sheet.specs.Survey.{Sized}
@@ -24,8 +24,8 @@ In-words w j = 4 * j + 3 < length w
 
 -- a record can be taken
 pub record Room (w : List ℕ) : Type 0 where
-  pub long : 48 ≤ length w
-  pub short : length w ≤ 65536
+  pub long : least-size ≤ length w
+  pub short : length w ≤ greatest-size
   pub inside : In-words w (new-record w)
 
 -- n records can be freed, one after the other
@@ -54,7 +54,7 @@ pub record Striking (w : List ℕ) (at : ℕ) : Type 0 where
 
 -- the totals with one lot more are words
 pub record Totals-fit (w : List ℕ) (answer : Answer) (c : Counts) : Type 0 where
-  pub long : 48 ≤ length w
+  pub long : least-size ≤ length w
   pub lots : word w (lots-total answer) + 1 ≤ largest
   pub good : word w good-units + c .good ≤ largest
   pub marginal : word w marginal-units + c .marginal ≤ largest

@@ -2,10 +2,10 @@
 use crate::layout::FIRST_FREE;
 use crate::layout::FIRST_LOT;
 use crate::layout::FIRST_RECORD;
+use crate::layout::HEADER_SIZE;
 use crate::layout::NEXT_UNUSED;
 use crate::layout::PLAN_START;
 use crate::layout::STAGE_COUNT;
-use crate::layout::STAGES_AND_TOTALS;
 use crate::size::size_ok;
 use sheetmodel::Done;
 ghost use mathlib.Core.Path.{_≡_};
@@ -13,7 +13,7 @@ ghost use Prim.Native.Nat.{_≤_};
 ghost use mathlib.Core.Bool.{true};
 ghost use lib.ListN.{length};
 ghost use Rattle.plan.specs.Plan.{admitted};
-ghost use Rattle.sheetmodel.specs.Layout.{word};
+ghost use Rattle.sheetmodel.specs.Layout.{least-size, greatest-size, word};
 ghost use Rattle.sheetmodel.specs.Calls.{fresh, fresh-words};
 
 // The plan's word i; 0 after its last.
@@ -28,7 +28,7 @@ fn plan_word(plan: &[u32], i: usize) -> u32
 
 // The stages go from PLAN_START on. After the plan come zeros: its unused stages and the totals.
 fn put_header(sheet: &mut [u32], plan: &[u32])
-    requires { ⌜ (48 ≤ length (now sheet)) × (length (now sheet) ≤ 65536) × (admitted (now plan) ≡ true) ⌝ }
+    requires { ⌜ (least-size ≤ length (now sheet)) × (length (now sheet) ≤ greatest-size) × (admitted (now plan) ≡ true) ⌝ }
     ensures { λ _. ⌜ now (sheet .exit) ≡ fresh-words (now (plan .entry)) (now (sheet .entry)) ⌝ }
 {
     sheet[NEXT_UNUSED] = FIRST_RECORD;
@@ -36,7 +36,7 @@ fn put_header(sheet: &mut [u32], plan: &[u32])
     sheet[FIRST_FREE] = 0;
     sheet[STAGE_COUNT] = (plan.len() / 5) as u32;
     let mut i = 0;
-    while i < STAGES_AND_TOTALS {
+    while i < HEADER_SIZE - PLAN_START {
         sheet[PLAN_START + i] = plan_word(plan, i);
         i += 1;
     }

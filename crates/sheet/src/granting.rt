@@ -9,6 +9,7 @@ ghost use Rattle.sheetmodel.specs.Rows.{record-rows};
 ghost use Rattle.sheetmodel.specs.Calls.{full, new-record, take-record};
 ghost use Rattle.sheet.specs.Granting.{grant-by};
 ghost use Rattle.sheet.specs.Writes.{Room};
+ghost use Rattle.sheetmodel.specs.Layout.{least-size};
 
 // A record that is needed: refused, or granted.
 pub enum Grant {
@@ -18,7 +19,7 @@ pub enum Grant {
 
 // Is no record free or unused?
 fn is_full(sheet: &[u32]) -> bool
-    requires { ⌜ 48 ≤ length (now sheet) ⌝ }
+    requires { ⌜ least-size ≤ length (now sheet) ⌝ }
     ensures { λ r. ⌜ r ≡ full (now (sheet .entry)) ⌝ }
 {
     if sheet[FIRST_FREE] != 0 {
@@ -29,7 +30,7 @@ fn is_full(sheet: &[u32]) -> bool
 
 // The rows about a record that is needed.
 pub fn grant_record(sheet: &[u32]) -> Grant
-    requires { ⌜ 48 ≤ length (now sheet) ⌝ }
+    requires { ⌜ least-size ≤ length (now sheet) ⌝ }
     ensures { λ r. ⌜ r ≡ grant-by (record-rows (full (now (sheet .entry)))) ⌝ }
 {
     if is_full(sheet) {
@@ -39,7 +40,7 @@ pub fn grant_record(sheet: &[u32]) -> Grant
 }
 
 pub fn new_record(sheet: &[u32]) -> u32
-    requires { ⌜ 48 ≤ length (now sheet) ⌝ }
+    requires { ⌜ least-size ≤ length (now sheet) ⌝ }
     ensures { λ r. ⌜ r ≡ new-record (now (sheet .entry)) ⌝ }
 {
     let free = sheet[FIRST_FREE];

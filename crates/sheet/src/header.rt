@@ -12,7 +12,7 @@ use crate::layout::STAGE_COUNT;
 ghost use mathlib.Core.Path.{_≡_};
 ghost use Prim.Native.Nat.{_≤_};
 ghost use lib.ListN.{length};
-ghost use Rattle.sheetmodel.specs.Layout.{first-record};
+ghost use Rattle.sheetmodel.specs.Layout.{least-size, greatest-size, first-record};
 ghost use Rattle.sheetmodel.specs.Read.{all-zero, header-ok};
 ghost use Rattle.sheet.specs.Survey.{are-totals};
 
@@ -31,7 +31,7 @@ fn is_zero(words: &[u32]) -> bool
 
 // Are the totals within their bounds?
 fn are_totals(sheet: &[u32]) -> bool
-    requires { ⌜ 48 ≤ length (now sheet) ⌝ }
+    requires { ⌜ least-size ≤ length (now sheet) ⌝ }
     ensures { λ r. ⌜ r ≡ are-totals (now (sheet .entry)) ⌝ }
 {
     let lots = sheet[ACCEPTED_LOTS] as u64 + sheet[REJECTED_LOTS] as u64;
@@ -43,7 +43,7 @@ fn are_totals(sheet: &[u32]) -> bool
 }
 
 pub fn is_header(sheet: &[u32]) -> bool
-    requires { ⌜ (48 ≤ length (now sheet)) × (length (now sheet) ≤ 65536) ⌝ }
+    requires { ⌜ (least-size ≤ length (now sheet)) × (length (now sheet) ≤ greatest-size) ⌝ }
     ensures { λ r. ⌜ r ≡ header-ok first-record (now (sheet .entry)) ⌝ }
 {
     let k = sheet[STAGE_COUNT];

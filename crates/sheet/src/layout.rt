@@ -1,4 +1,8 @@
 // The places of the words in a sheet's header, and the fixed numbers of a sheet. Document 01, "Sheet".
+pub const LEAST_SIZE: usize = 48;
+
+pub const GREATEST_SIZE: usize = 65536;
+
 pub const NEXT_UNUSED: usize = 0;
 
 pub const FIRST_LOT: usize = 1;
@@ -19,8 +23,7 @@ pub const MARGINAL_UNITS: usize = 42;
 
 pub const BAD_UNITS: usize = 43;
 
-// the words from PLAN_START to the end of the header: the stages and the totals
-pub const STAGES_AND_TOTALS: usize = 40;
+pub const HEADER_SIZE: usize = 44;
 
 // the first record after the header
 pub const FIRST_RECORD: u32 = 11;

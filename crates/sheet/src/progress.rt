@@ -10,7 +10,7 @@ ghost use lib.ListN.{length};
 ghost use Rattle.plan.specs.Plan.{stages, admitted};
 ghost use Rattle.plan.specs.Counts.{units};
 ghost use Rattle.plan.specs.Stopping.{earliest};
-ghost use Rattle.sheetmodel.specs.Layout.{plan-words};
+ghost use Rattle.sheetmodel.specs.Layout.{least-size, plan-words};
 ghost use Rattle.sheetmodel.specs.Read.{undecided};
 
 pub fn units_of(c: Counts) -> u32
@@ -21,7 +21,7 @@ pub fn units_of(c: Counts) -> u32
 }
 
 pub fn answer_to(sheet: &[u32], c: Counts) -> Answer
-    requires { ⌜ (48 ≤ length (now sheet)) × (admitted (plan-words (now sheet)) ≡ true) × (units c ≤ 1000) ⌝ }
+    requires { ⌜ (least-size ≤ length (now sheet)) × (admitted (plan-words (now sheet)) ≡ true) × (units c ≤ 1000) ⌝ }
     ensures { λ r. ⌜ r ≡ earliest (stages (plan-words (now (sheet .entry)))) c ⌝ }
 {
     let end = (4 + 5 * sheet[STAGE_COUNT]) as usize;

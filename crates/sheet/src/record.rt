@@ -2,7 +2,7 @@
 ghost use mathlib.Core.Path.{_≡_};
 ghost use Prim.Native.Nat.{_+_, _*_, _≤_, _<_};
 ghost use lib.ListN.{length};
-ghost use Rattle.sheetmodel.specs.Layout.{field, put, put-record};
+ghost use Rattle.sheetmodel.specs.Layout.{greatest-size, field, put, put-record};
 ghost use Rattle.sheet.specs.Survey.{record-at};
 
 // The four words of a record: of a lot number, next lot, newest inspection and 0; of an inspection
@@ -15,14 +15,14 @@ pub struct Record {
 }
 
 pub fn field_of(sheet: &[u32], j: u32, f: u32) -> u32
-    requires { ⌜ (4 * j + f < length (now sheet)) × (length (now sheet) ≤ 65536) ⌝ }
+    requires { ⌜ (4 * j + f < length (now sheet)) × (length (now sheet) ≤ greatest-size) ⌝ }
     ensures { λ r. ⌜ r ≡ field (now (sheet .entry)) j f ⌝ }
 {
     sheet[(4 * j + f) as usize]
 }
 
 pub fn record_at(sheet: &[u32], j: u32) -> Record
-    requires { ⌜ (4 * j + 3 < length (now sheet)) × (length (now sheet) ≤ 65536) ⌝ }
+    requires { ⌜ (4 * j + 3 < length (now sheet)) × (length (now sheet) ≤ greatest-size) ⌝ }
     ensures { λ r. ⌜ r ≡ record-at (now (sheet .entry)) j ⌝ }
 {
     Record {
@@ -34,14 +34,14 @@ pub fn record_at(sheet: &[u32], j: u32) -> Record
 }
 
 pub fn put_field(sheet: &mut [u32], j: u32, f: u32, v: u32)
-    requires { ⌜ (4 * j + f < length (now sheet)) × (length (now sheet) ≤ 65536) ⌝ }
+    requires { ⌜ (4 * j + f < length (now sheet)) × (length (now sheet) ≤ greatest-size) ⌝ }
     ensures { λ _. ⌜ now (sheet .exit) ≡ put (now (sheet .entry)) j f v ⌝ }
 {
     sheet[(4 * j + f) as usize] = v;
 }
 
 pub fn put_record(sheet: &mut [u32], j: u32, a: u32, b: u32, c: u32, d: u32)
-    requires { ⌜ (4 * j + 3 < length (now sheet)) × (length (now sheet) ≤ 65536) ⌝ }
+    requires { ⌜ (4 * j + 3 < length (now sheet)) × (length (now sheet) ≤ greatest-size) ⌝ }
     ensures { λ _. ⌜ now (sheet .exit) ≡ put-record (now (sheet .entry)) j a b c d ⌝ }
 {
     put_field(sheet, j, 0, a);

@@ -19,7 +19,7 @@ ghost use lib.ListN.{length};
 ghost use lib.Dec.{eqb};
 ghost use Rattle.plan.specs.Plan.{stages, admitted};
 ghost use Rattle.plan.specs.Counts.{units};
-ghost use Rattle.sheetmodel.specs.Layout.{next-unused, first-record, first-lot, word, records};
+ghost use Rattle.sheetmodel.specs.Layout.{least-size, greatest-size, next-unused, first-record, first-lot, word, records};
 ghost use Rattle.sheetmodel.specs.Read.{read, read-lots};
 ghost use Rattle.sheet.specs.Survey.{Sized, is-lot, with-lot-found, nothing-found, lots-survey, survey-of};
 
@@ -115,7 +115,7 @@ fn lots(sheet: &[u32], plan: &[u32], sought: u32) -> Surveyed
 
 // Are the records on chains as many as are in use?
 fn are_counted(sheet: &[u32], used: u32, free: u32) -> bool
-    requires { ⌜ 48 ≤ length (now sheet) ⌝ }
+    requires { ⌜ least-size ≤ length (now sheet) ⌝ }
     ensures { λ r. ⌜ r ≡ eqb (first-record + (used + free)) (word (now (sheet .entry)) next-unused) ⌝ }
 {
     FIRST_RECORD as u64 + (used as u64 + free as u64) == sheet[NEXT_UNUSED] as u64
@@ -123,7 +123,7 @@ fn are_counted(sheet: &[u32], used: u32, free: u32) -> bool
 
 // The survey of a sheet for the lot number that is sought.
 pub fn survey(sheet: &[u32], sought: u32) -> Surveyed
-    requires { ⌜ (48 ≤ length (now sheet)) × (length (now sheet) ≤ 65536) ⌝ }
+    requires { ⌜ (least-size ≤ length (now sheet)) × (length (now sheet) ≤ greatest-size) ⌝ }
     ensures { λ r. ⌜ r ≡ survey-of sought (read (now (sheet .entry))) ⌝ }
 {
     if !is_header(sheet) {

@@ -10,7 +10,7 @@ use plan::Counts;
 ghost use mathlib.Core.Path.{_≡_};
 ghost use Prim.Native.Nat.{_+_, _≤_, _<_};
 ghost use lib.ListN.{length};
-ghost use Rattle.sheetmodel.specs.Layout.{word};
+ghost use Rattle.sheetmodel.specs.Layout.{least-size, word};
 ghost use Rattle.sheetmodel.specs.Calls.{tally-full, add-to, lots-total, add-totals};
 ghost use Rattle.sheet.specs.Writes.{largest, Totals-fit};
 
@@ -34,7 +34,7 @@ fn add_to(sheet: &mut [u32], i: usize, n: u32)
 
 // Are as many lots closed as the totals may count?
 pub fn are_full(sheet: &[u32]) -> bool
-    requires { ⌜ 48 ≤ length (now sheet) ⌝ }
+    requires { ⌜ least-size ≤ length (now sheet) ⌝ }
     ensures { λ r. ⌜ r ≡ tally-full (now (sheet .entry)) ⌝ }
 {
     MOST_CLOSED <= sheet[ACCEPTED_LOTS] as u64 + sheet[REJECTED_LOTS] as u64

@@ -8,7 +8,7 @@ use native.Mathlib.Omega.{arith}
 use lib.ListN.{length, set, length-set}
 use lib.Dec.{leb}
 use borrow.Author.Tests.{leb-false, eq-eqb, ne-eqb}
-use Rattle.sheetmodel.specs.Layout.{word, field, put-record, records, free-tag, next-unused, first-lot, first-free, first-record}
+use Rattle.sheetmodel.specs.Layout.{least-size, word, field, put-record, records, free-tag, next-unused, first-lot, first-free, first-record}
 use Rattle.sheetmodel.specs.Contents.{Inspection}
 use Rattle.sheetmodel.specs.Holds.{Inspections, Free}
 use Rattle.sheetmodel.specs.Calls.{full, new-record, take-record, free-record, free-inspections}
@@ -55,7 +55,7 @@ not-full w e z = go (leb (records w) (word w next-unused)) refl (rw (eq-eqb (wor
     go true d f = let y : _≡_ {A = ℕ} 0 1 = cc in absurd (omega arith)
     go false d f = leb-false (records w) (word w next-unused) d
 
-module _ (start : ℕ) (base : first-record ≤ start) (w : List ℕ) (long : 48 ≤ length w) (begun : start ≤ word w next-unused) (room : word w next-unused ≤ records w) (spare : full w ≡ false) where
+module _ (start : ℕ) (base : first-record ≤ start) (w : List ℕ) (long : least-size ≤ length w) (begun : start ≤ word w next-unused) (room : word w next-unused ≤ records w) (spare : full w ≡ false) where
   pub took : (js : List ℕ) → Free start w (word w next-unused) js (word w first-free) → Took start w js (new-record w) (take-record w)
   unfolding new-record take-record
   took (j ∷ js) c =

@@ -6,9 +6,14 @@ use lib.ListN.{length, getD, set, take, drop}
 use lib.Dec.{leb}
 use Rattle.sheetmodel.specs.declared.reply.Totals.{Totals}
 
--- 48 to 65,536 words
+abbrev pub least-size : ℕ
+least-size = 48
+
+abbrev pub greatest-size : ℕ
+greatest-size = 65536
+
 abbrev pub size-ok : List ℕ → Bool
-size-ok w = leb 48 (length w) && leb (length w) 65536
+size-ok w = leb least-size (length w) && leb (length w) greatest-size
 
 abbrev pub word : List ℕ → ℕ → ℕ
 word w i = getD w i 0
@@ -50,6 +55,9 @@ marginal-units = 42
 
 abbrev pub bad-units : ℕ
 bad-units = 43
+
+abbrev pub header-size : ℕ
+header-size = 44
 
 -- the first record after the header
 abbrev pub first-record : ℕ

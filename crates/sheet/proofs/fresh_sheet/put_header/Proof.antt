@@ -5,6 +5,7 @@ use native.Mathlib.Omega.{arith}
 use lib.ListN.{length, length-set}
 use Rattle.plan.specs.Plan.{stages}
 use Rattle.plan.proofs.Promise.{shape}
+use Rattle.sheetmodel.specs.Layout.{header-size, plan-start}
 use Rattle.sheet.proofs.HeaderWords.{Written-to, begun, one-more, all-written, fresh-first}
 use Rattle.sheet.proofs.fresh_sheet.put_header.Statement.{statement}
 use Rattle.sheet.proofs.fresh_sheet.put_header.Tie as tie
@@ -13,7 +14,7 @@ abbrev Inv-loop : tie.InvT-loop
 Inv-loop sheet₀ plan i₀ sheet i = Written-to plan sheet₀ sheet i
 
 abbrev μ-loop : tie.MeasureT-loop
-μ-loop sheet₀ plan i₀ sheet i = 40 - i
+μ-loop sheet₀ plan i₀ sheet i = header-size - plan-start - i
 
 -- k
 stage-count : (c : tie.Start Inv-loop μ-loop) → length (c .args .plan .now) / 5 ≡ length (stages (c .args .plan .now))
@@ -83,6 +84,7 @@ put-header-spec =
     cast-sheet
     slice-write-sheet-4
     loop-holds
+    (λ c. omega arith)
     plan-word-requires
     add-sheet
     mul-sheet
