@@ -14,11 +14,12 @@ use Rattle.plan.specs.Counts.{units, no-units, counts}
 use Rattle.plan.proofs.Promise.{promise}
 use Rattle.sheet.specs.declared.record.Record.{Record}
 use Rattle.sheet.specs.declared.chain.Chain.{Chain}
-use Rattle.sheet.specs.declared.chain.Chain.the-variants.{Cut, Whole}
+use Rattle.sheet.specs.declared.chain.Chain.the-variants.{Whole}
+use Rattle.sheet.specs.declared.chain.Chain.the-variants as chain
 use Rattle.sheet.specs.declared.survey.Found.{Found}
 use Rattle.sheet.specs.declared.survey.Surveyed.{Surveyed}
 use Rattle.sheet.specs.declared.survey.Surveyed.the-variants.{Corrupt, Intact}
-use Rattle.sheetmodel.specs.Layout.{word, field, next, newest, next-unused, first-record}
+use Rattle.sheetmodel.specs.Layout.{word, field, next, newest, next-unused}
 use Rattle.sheetmodel.specs.Contents.{Inspection, Lot, classes}
 use Rattle.sheetmodel.specs.Read.{guard, then, in-use, serial-at, read-inspections, read-lots, undecided-before}
 use Rattle.sheet.specs.Survey.{record-at, is-lot, tested, chain-of, with-lot-found, lots-survey}
@@ -28,66 +29,66 @@ use Rattle.sheet.proofs.Tested.{same-test}
 
 -- ---- a lot's inspections
 
-module _ (w : List ℕ) (lot : ℕ) where
+module _ (first : ℕ) (w : List ℕ) (lot : ℕ) where
   abbrev whole-chain : List Stage → ℕ → Chain
-  whole-chain p at = chain-of (undecided-before p) (read-inspections first-record w lot (serial-at w at) at)
+  whole-chain p at = chain-of (undecided-before p) (read-inspections first w lot (serial-at w at) at)
 
   pub no-inspection : (p : List Stage) (at : ℕ) → at ≡ 0 → whole-chain p at ≡ Whole no-units
   unfolding serial-at
-  no-inspection p at e = rw (eq-eqb at 0 e) (ended w lot (undecided-before p) at e refl)
+  no-inspection p at e = rw (eq-eqb at 0 e) (ended first w lot (undecided-before p) at e refl)
 
   pub serial-is : (at : ℕ) → (at ≡ 0 → ⊥) → serial-at w at ≡ field w at 3
   unfolding serial-at
   serial-is at n = rw (ne-eqb at 0 n)
 
-  pub not-used : (p : List Stage) (at : ℕ) → (at ≡ 0 → ⊥) → in-use first-record w at ≡ false → whole-chain p at ≡ Cut
+  pub not-used : (p : List Stage) (at : ℕ) → (at ≡ 0 → ⊥) → in-use first w at ≡ false → whole-chain p at ≡ chain.Corrupt
   not-used p at n e = go (serial-at w at) (decLt 0 (serial-at w at))
     where
-      go : (s : ℕ) → Dec (0 < s) → chain-of (undecided-before p) (read-inspections first-record w lot s at) ≡ Cut
-      go s (yes l) = cut-here w lot (undecided-before p) s at l (rw e)
-      go s (no l) = let z : s ≡ 0 = omega arith in rw z (not-ended w lot (undecided-before p) at n)
+      go : (s : ℕ) → Dec (0 < s) → chain-of (undecided-before p) (read-inspections first w lot s at) ≡ chain.Corrupt
+      go s (yes l) = cut-here first w lot (undecided-before p) s at l (rw e)
+      go s (no l) = let z : s ≡ 0 = omega arith in rw z (not-ended first w lot (undecided-before p) at n)
 
-  pub no-serial : (p : List Stage) (at : ℕ) → (at ≡ 0 → ⊥) → field w at 3 ≡ 0 → whole-chain p at ≡ Cut
-  no-serial p at n e = rw (serial-is at n, e) (not-ended w lot (undecided-before p) at n)
+  pub no-serial : (p : List Stage) (at : ℕ) → (at ≡ 0 → ⊥) → field w at 3 ≡ 0 → whole-chain p at ≡ chain.Corrupt
+  no-serial p at n e = rw (serial-is at n, e) (not-ended first w lot (undecided-before p) at n)
 
   module _ (v : List ℕ) (e : admitted v ≡ true) where
     -- no lot has more units than the sample
-    pub too-long : (n at : ℕ) → total (stages v) < n → chain-of (undecided-before (stages v)) (read-inspections first-record w lot n at) ≡ Cut
-    too-long n at l = go (read-inspections first-record w lot n at) refl
+    pub too-long : (n at : ℕ) → total (stages v) < n → chain-of (undecided-before (stages v)) (read-inspections first w lot n at) ≡ chain.Corrupt
+    too-long n at l = go (read-inspections first w lot n at) refl
       where
-        go : (o : Option (List Inspection)) → read-inspections first-record w lot n at ≡ o → chain-of (undecided-before (stages v)) o ≡ Cut
+        go : (o : Option (List Inspection)) → read-inspections first w lot n at ≡ o → chain-of (undecided-before (stages v)) o ≡ chain.Corrupt
         go none f = refl
         go (some is) f = decided (undecided-before (stages v) is) refl
           where
-            decided : (b : Bool) → undecided-before (stages v) is ≡ b → cond b (Whole (counts (classes is))) Cut ≡ Cut
+            decided : (b : Bool) → undecided-before (stages v) is ≡ b → cond b (Whole (counts (classes is))) chain.Corrupt ≡ chain.Corrupt
             decided true g =
-                let s = sound-inspections first-record w lot n at is f in
-                let h = is-history (stages v) first-record w (word w next-unused) lot at is (s .0) (fact (stages v) is g) in
+                let s = sound-inspections first w lot n at is f in
+                let h = is-history (stages v) first w (word w next-unused) lot at is (s .0) (fact (stages v) is g) in
                 absurd (omega (arith, promise v e .no-longer (classes is) h, length-classes is, s .1))
             decided false g = refl
 
-    pub chain-units : (n at : ℕ) (c : Counts) → chain-of (undecided-before (stages v)) (read-inspections first-record w lot n at) ≡ Whole c → units c ≤ total (stages v)
+    pub chain-units : (n at : ℕ) (c : Counts) → chain-of (undecided-before (stages v)) (read-inspections first w lot n at) ≡ Whole c → units c ≤ total (stages v)
     chain-units n at c f = go (decLt (total (stages v)) n)
       where
         go : Dec (total (stages v) < n) → units c ≤ total (stages v)
-        go (yes l) = let same : Cut ≡ Whole c = sym (too-long n at l) ∙ f in absurd (let z : _≡_ {A = ℕ} 0 1 = cc in omega arith)
-        go (no l) = omega (arith, whole-units w lot (undecided-before (stages v)) n at c f)
+        go (yes l) = let same : chain.Corrupt ≡ Whole c = sym (too-long n at l) ∙ f in absurd (let z : _≡_ {A = ℕ} 0 1 = cc in omega arith)
+        go (no l) = omega (arith, whole-units first w lot (undecided-before (stages v)) n at c f)
 
     -- the tests of the walk are enough
-    pub by-tests : (n at : ℕ) → chain-of (tested (stages v) (n - 1)) (read-inspections first-record w lot n at) ≡ chain-of (undecided-before (stages v)) (read-inspections first-record w lot n at)
-    by-tests n at = go (read-inspections first-record w lot n at) refl
+    pub by-tests : (n at : ℕ) → chain-of (tested (stages v) (n - 1)) (read-inspections first w lot n at) ≡ chain-of (undecided-before (stages v)) (read-inspections first w lot n at)
+    by-tests n at = go (read-inspections first w lot n at) refl
       where
-        go : (o : Option (List Inspection)) → read-inspections first-record w lot n at ≡ o → chain-of (tested (stages v) (n - 1)) o ≡ chain-of (undecided-before (stages v)) o
+        go : (o : Option (List Inspection)) → read-inspections first w lot n at ≡ o → chain-of (tested (stages v) (n - 1)) o ≡ chain-of (undecided-before (stages v)) o
         go none f = refl
         go (some is) f =
-            let l : n ≡ length is = sound-inspections first-record w lot n at is f .1 in
-            ap (λ (b : Bool). cond b (Whole (counts (classes is))) Cut) (ap (λ (k : ℕ). tested (stages v) (k - 1) is) l ∙ same-test v e is)
+            let l : n ≡ length is = sound-inspections first w lot n at is f .1 in
+            ap (λ (b : Bool). cond b (Whole (counts (classes is))) chain.Corrupt) (ap (λ (k : ℕ). tested (stages v) (k - 1) is) l ∙ same-test v e is)
 
 -- ---- the lots
 
 -- what the lots from here on give, where v is what the inspections of the first one gave
 abbrev pub after-chain : List Stage → ℕ → Found → ℕ → ℕ → Chain → Option (List Lot) → Surveyed
-after-chain p n f at number Cut rest = Corrupt
+after-chain p n f at number chain.Corrupt rest = Corrupt
 after-chain p n f at number (Whole c) rest = lots-survey p n (with-lot-found n f at number c) rest
 
 one-lot : (p : List Stage) (n : ℕ) (f : Found) (at number : ℕ) (o : Option (List Inspection)) (rest : Option (List Lot))
@@ -96,36 +97,36 @@ one-lot p n f at number none rest = refl
 one-lot p n f at number (some is) rest = go (undecided-before p is) refl rest
   where
     go : (b : Bool) → undecided-before p is ≡ b → (r : Option (List Lot))
-        → lots-survey p n f (then r (λ ls. some (record { at = at; number = number; inspections = is } ∷ ls))) ≡ after-chain p n f at number (cond b (Whole (counts (classes is))) Cut) r
+        → lots-survey p n f (then r (λ ls. some (record { at = at; number = number; inspections = is } ∷ ls))) ≡ after-chain p n f at number (cond b (Whole (counts (classes is))) chain.Corrupt) r
     go true e none = refl
     go false e none = refl
     go true e (some ls) = rw e
     go false e (some ls) = rw e
 
-module _ (w : List ℕ) (p : List Stage) (n : ℕ) (f : Found) where
-  pub no-lot : (left above at : ℕ) → at ≡ 0 → lots-survey p n f (read-lots first-record w left above at) ≡ Intact f
+module _ (first : ℕ) (w : List ℕ) (p : List Stage) (n : ℕ) (f : Found) where
+  pub no-lot : (left above at : ℕ) → at ≡ 0 → lots-survey p n f (read-lots first w left above at) ≡ Intact f
   unfolding read-lots
   no-lot zero above at e = rw (eq-eqb at 0 e)
   no-lot (suc left) above at e = rw (eq-eqb at 0 e)
 
-  pub none-left : (left above at : ℕ) → left ≡ 0 → (at ≡ 0 → ⊥) → lots-survey p n f (read-lots first-record w left above at) ≡ Corrupt
+  pub none-left : (left above at : ℕ) → left ≡ 0 → (at ≡ 0 → ⊥) → lots-survey p n f (read-lots first w left above at) ≡ Corrupt
   unfolding read-lots
   none-left left above at e z = rw (e, ne-eqb at 0 z)
 
-  step : (left above at : ℕ) → 0 < left → (at ≡ 0 → ⊥) → read-lots first-record w left above at ≡
-      guard (is-lot w above at) (λ ok. then (read-inspections first-record w at (serial-at w (newest w at)) (newest w at)) (λ is.
-      then (read-lots first-record w (left - 1) (field w at 0) (next w at)) (λ ls. some (record { at = at; number = field w at 0; inspections = is } ∷ ls))))
+  step : (left above at : ℕ) → 0 < left → (at ≡ 0 → ⊥) → read-lots first w left above at ≡
+      guard (is-lot first w above at) (λ ok. then (read-inspections first w at (serial-at w (newest w at)) (newest w at)) (λ is.
+      then (read-lots first w (left - 1) (field w at 0) (next w at)) (λ ls. some (record { at = at; number = field w at 0; inspections = is } ∷ ls))))
   unfolding read-lots
   step zero above at l z = absurd (omega arith)
   step (suc left) above at l z = let m : suc left - 1 ≡ left = omega arith in rw (ne-eqb at 0 z, m)
 
-  pub not-lot : (left above at : ℕ) → 0 < left → (at ≡ 0 → ⊥) → is-lot w above at ≡ false → lots-survey p n f (read-lots first-record w left above at) ≡ Corrupt
+  pub not-lot : (left above at : ℕ) → 0 < left → (at ≡ 0 → ⊥) → is-lot first w above at ≡ false → lots-survey p n f (read-lots first w left above at) ≡ Corrupt
   not-lot left above at l z e = rw (step left above at l z, e)
 
   -- r is the lot's record, and v what its inspections gave
-  pub next-lot : (left above at : ℕ) → 0 < left → (at ≡ 0 → ⊥) → is-lot w above at ≡ true → (r : Record) → r ≡ record-at w at
-      → (v : Chain) → v ≡ chain-of (undecided-before p) (read-inspections first-record w at (serial-at w (r .c)) (r .c))
-      → lots-survey p n f (read-lots first-record w left above at) ≡ after-chain p n f at (r .a) v (read-lots first-record w (left - 1) (r .a) (r .b))
+  pub next-lot : (left above at : ℕ) → 0 < left → (at ≡ 0 → ⊥) → is-lot first w above at ≡ true → (r : Record) → r ≡ record-at w at
+      → (v : Chain) → v ≡ chain-of (undecided-before p) (read-inspections first w at (serial-at w (r .link)) (r .link))
+      → lots-survey p n f (read-lots first w left above at) ≡ after-chain p n f at (r .value) v (read-lots first w (left - 1) (r .value) (r .next))
   next-lot left above at l z e r g v h =
       rw (step left above at l z, e, h, g)
-      (one-lot p n f at (field w at 0) (read-inspections first-record w at (serial-at w (newest w at)) (newest w at)) (read-lots first-record w (left - 1) (field w at 0) (next w at)))
+      (one-lot p n f at (field w at 0) (read-inspections first w at (serial-at w (newest w at)) (newest w at)) (read-lots first w (left - 1) (field w at 0) (next w at)))

@@ -18,10 +18,10 @@ use Rattle.sheet.specs.declared.chain.FreeChain.the-variants as free
 use Rattle.sheet.specs.declared.survey.Found.{Found}
 use Rattle.sheet.specs.declared.survey.Surveyed.{Surveyed}
 use Rattle.sheet.specs.declared.survey.Surveyed.the-variants.{Corrupt, Intact}
-use Rattle.sheetmodel.specs.Layout.{word, records, next-unused, first-lot, first-free, first-record, plan-words}
+use Rattle.sheetmodel.specs.Layout.{word, records, next-unused, first-lot, first-free, plan-words}
 use Rattle.sheetmodel.specs.Contents.{Lot, history, records-of, find}
 use Rattle.sheetmodel.specs.Holds.{Lots}
-use Rattle.sheetmodel.specs.Read.{guard, then, depth, read-lots, read-free, all-undecided-before, header-ok, contents-ok, read-from, read}
+use Rattle.sheetmodel.specs.Read.{guard, then, depth, read-lots, read-free, all-undecided-before, header-ok, contents-ok, read-from}
 use Rattle.sheetmodel.specs.Calls.{last-below}
 use Rattle.sheet.specs.Survey.{found-from, nothing-found, lots-survey, free-of, found, survey-of}
 use Rattle.sheetmodel.proofs.Promise.{length-classes, sound-lots, find-above}
@@ -35,9 +35,9 @@ lot-units l = counting .length-of (history l) ∙ length-classes (l .inspections
 abbrev with-used : Found → ℕ → Found
 with-used f n = record { used = n; before = f .before; at = f .at; counts = f .counts }
 
-module _ (w : List ℕ) (hi n : ℕ) where
+module _ (first : ℕ) (w : List ℕ) (hi n : ℕ) where
   -- past the number that is sought nothing more is found
-  passed : (f : Found) (ls : List Lot) (above at : ℕ) → n ≤ above → Lots first-record w hi above ls at → found-from n f ls ≡ with-used f (f .used + records-of ls)
+  passed : (f : Found) (ls : List Lot) (above at : ℕ) → n ≤ above → Lots first w hi above ls at → found-from n f ls ≡ with-used f (f .used + records-of ls)
   passed f [] above at l h = ap (with-used f) (sym (add-zero (f .used)))
   passed f (m ∷ ls) above at l h =
       let u = lot-units m in
@@ -55,7 +55,7 @@ module _ (w : List ℕ) (hi n : ℕ) where
   same-lot f g none before x y e a c = cc
   same-lot f g (some l) before x y e a c = ap (λ (u : ℕ). record { used = u; before = before; at = l .at; counts = counts (history l) }) e
 
-  found-is : (f : Found) (ls : List Lot) (above at : ℕ) → Lots first-record w hi above ls at
+  found-is : (f : Found) (ls : List Lot) (above at : ℕ) → Lots first w hi above ls at
       → found-from n f ls ≡ with-lot f (find n ls) (last-below n (f .before) ls) (f .used + records-of ls)
   found-is f [] above at h = ap (with-used f) (sym (add-zero (f .used)))
   found-is f (m ∷ ls) above at h =
@@ -73,7 +73,7 @@ module _ (w : List ℕ) (hi n : ℕ) where
           rw (lt-ltb (m .number) n l, ne-eqb n (m .number) (λ e. omega arith))
           (later ∙ same-lot (record { used = f .used + (1 + units (counts (history m))); before = m .at; at = f .at; counts = f .counts }) f (find n ls) (last-below n (m .at) ls) _ _ sum refl refl)
       go (no l) (yes k) later =
-          rw (le-ltb (m .number) n (omega arith), ne-eqb n (m .number) (λ e. omega arith), find-above first-record (omega arith) w hi n (m .number) _ ls (omega arith) (h .2))
+          rw (le-ltb (m .number) n (omega arith), ne-eqb n (m .number) (λ e. omega arith), find-above first w hi n (m .number) _ ls (omega arith) (h .2))
           (passed (with-used f (f .used + (1 + units (counts (history m))))) ls (m .number) _ (omega arith) (h .2) ∙ ap (with-used f) sum)
       go (no l) (no k) later =
           rw (le-ltb (m .number) n (omega arith), eq-eqb n (m .number) (omega arith))
@@ -83,63 +83,63 @@ module _ (w : List ℕ) (hi n : ℕ) where
 -- ---- the whole survey
 
 -- by the lots and the free records
-abbrev pub by-walks : List ℕ → Surveyed → FreeChain → Surveyed
-by-walks w Corrupt c = Corrupt
-by-walks w (Intact f) free.Cut = Corrupt
-by-walks w (Intact f) (free.Whole k) = cond (eqb (first-record + (f .used + k)) (word w next-unused)) (Intact f) Corrupt
+abbrev pub by-walks : ℕ → List ℕ → Surveyed → FreeChain → Surveyed
+by-walks first w Corrupt c = Corrupt
+by-walks first w (Intact f) free.Corrupt = Corrupt
+by-walks first w (Intact f) (free.Whole k) = cond (eqb (first + (f .used + k)) (word w next-unused)) (Intact f) Corrupt
 
-module _ (w : List ℕ) (n : ℕ) where
+module _ (first : ℕ) (w : List ℕ) (n : ℕ) where
   abbrev p : List Stage
   p = stages (plan-words w)
 
   -- the lot is the one that `find` gives
-  same-found : (ls : List Lot) → Lots first-record w (word w next-unused) 0 ls (word w first-lot)
+  same-found : (ls : List Lot) → Lots first w (word w next-unused) 0 ls (word w first-lot)
       → found-from n nothing-found ls ≡ found n (find n ls) (last-below n 0 ls) (records-of ls)
-  same-found ls h = found-is w (word w next-unused) n nothing-found ls 0 (word w first-lot) h ∙ go (find n ls)
+  same-found ls h = found-is first w (word w next-unused) n nothing-found ls 0 (word w first-lot) h ∙ go (find n ls)
     where
-      go : (o : Option Lot) → with-lot w (word w next-unused) n nothing-found o (last-below n 0 ls) (0 + records-of ls) ≡ found n o (last-below n 0 ls) (records-of ls)
+      go : (o : Option Lot) → with-lot first w (word w next-unused) n nothing-found o (last-below n 0 ls) (0 + records-of ls) ≡ found n o (last-below n 0 ls) (records-of ls)
       go none = ap (λ (u : ℕ). record { used = u; before = last-below n 0 ls; at = 0; counts = no-units }) (omega arith)
       go (some l) = ap (λ (u : ℕ). record { used = u; before = last-below n 0 ls; at = l .at; counts = counts (history l) }) (omega arith)
 
   -- what was found stands if the records are counted
-  found-one : (ls : List Lot) (js : List ℕ) (o : Option Lot) (x : Bool) → find n ls ≡ o → eqb (first-record + (records-of ls + length js)) (word w next-unused) ≡ x
-      → survey-of n (guard x (λ ok. some (record { lots = ls; free = js }))) ≡ by-walks w (Intact (found n o (last-below n 0 ls) (records-of ls))) (free.Whole (length js))
+  found-one : (ls : List Lot) (js : List ℕ) (o : Option Lot) (x : Bool) → find n ls ≡ o → eqb (first + (records-of ls + length js)) (word w next-unused) ≡ x
+      → survey-of n (guard x (λ ok. some (record { lots = ls; free = js }))) ≡ by-walks first w (Intact (found n o (last-below n 0 ls) (records-of ls))) (free.Whole (length js))
   found-one ls js none true f e = rw (f, e)
   found-one ls js none false f e = rw e
   found-one ls js (some l) true f e = rw (f, e)
   found-one ls js (some l) false f e = rw e
 
-  last-test : (ls : List Lot) (js : List ℕ) → Lots first-record w (word w next-unused) 0 ls (word w first-lot)
-      → survey-of n (guard (contents-ok first-record w (record { lots = ls; free = js })) (λ ok. some (record { lots = ls; free = js })))
-      ≡ by-walks w (cond (all-undecided-before p ls) (Intact (found-from n nothing-found ls)) Corrupt) (free.Whole (length js))
-  last-test ls js h = go (all-undecided-before p ls) (eqb (first-record + (records-of ls + length js)) (word w next-unused)) refl
+  last-test : (ls : List Lot) (js : List ℕ) → Lots first w (word w next-unused) 0 ls (word w first-lot)
+      → survey-of n (guard (contents-ok first w (record { lots = ls; free = js })) (λ ok. some (record { lots = ls; free = js })))
+      ≡ by-walks first w (cond (all-undecided-before p ls) (Intact (found-from n nothing-found ls)) Corrupt) (free.Whole (length js))
+  last-test ls js h = go (all-undecided-before p ls) (eqb (first + (records-of ls + length js)) (word w next-unused)) refl
     where
-      go : (b x : Bool) → eqb (first-record + (records-of ls + length js)) (word w next-unused) ≡ x
-          → survey-of n (guard (x && b) (λ ok. some (record { lots = ls; free = js }))) ≡ by-walks w (cond b (Intact (found-from n nothing-found ls)) Corrupt) (free.Whole (length js))
+      go : (b x : Bool) → eqb (first + (records-of ls + length js)) (word w next-unused) ≡ x
+          → survey-of n (guard (x && b) (λ ok. some (record { lots = ls; free = js }))) ≡ by-walks first w (cond b (Intact (found-from n nothing-found ls)) Corrupt) (free.Whole (length js))
       go false x e = rw (and-false x)
       go true x e = rw (and-true x, same-found ls h) (found-one ls js (find n ls) x refl e)
 
-  pub by-header : header-ok first-record w ≡ true
-      → survey-of n (read w) ≡ by-walks w (lots-survey p n nothing-found (read-lots first-record w (records w) 0 (word w first-lot))) (free-of (read-free first-record w (depth w) (word w first-free)))
+  pub by-header : header-ok first w ≡ true
+      → survey-of n (read-from first w) ≡ by-walks first w (lots-survey p n nothing-found (read-lots first w (records w) 0 (word w first-lot))) (free-of (read-free first w (depth w) (word w first-free)))
   unfolding read-from
-  by-header e = rw e (go (read-lots first-record w (records w) 0 (word w first-lot)) refl (read-free first-record w (depth w) (word w first-free)))
+  by-header e = rw e (go (read-lots first w (records w) 0 (word w first-lot)) refl (read-free first w (depth w) (word w first-free)))
     where
-      go : (L : Option (List Lot)) → read-lots first-record w (records w) 0 (word w first-lot) ≡ L → (F : Option (List ℕ))
-          → survey-of n (then L (λ ls. then F (λ js. guard (contents-ok first-record w (record { lots = ls; free = js })) (λ ok. some (record { lots = ls; free = js })))))
-          ≡ by-walks w (lots-survey p n nothing-found L) (free-of F)
+      go : (L : Option (List Lot)) → read-lots first w (records w) 0 (word w first-lot) ≡ L → (F : Option (List ℕ))
+          → survey-of n (then L (λ ls. then F (λ js. guard (contents-ok first w (record { lots = ls; free = js })) (λ ok. some (record { lots = ls; free = js })))))
+          ≡ by-walks first w (lots-survey p n nothing-found L) (free-of F)
       go none f F = refl
       go (some ls) f none = cut (all-undecided-before p ls)
         where
-          cut : (b : Bool) → Corrupt ≡ by-walks w (cond b (Intact (found-from n nothing-found ls)) Corrupt) free.Cut
+          cut : (b : Bool) → Corrupt ≡ by-walks first w (cond b (Intact (found-from n nothing-found ls)) Corrupt) free.Corrupt
           cut true = refl
           cut false = refl
-      go (some ls) f (some js) = last-test ls js (sound-lots first-record w (records w) 0 (word w first-lot) ls f)
+      go (some ls) f (some js) = last-test ls js (sound-lots first w (records w) 0 (word w first-lot) ls f)
 
-  pub no-header : header-ok first-record w ≡ false → survey-of n (read w) ≡ Corrupt
+  pub no-header : header-ok first w ≡ false → survey-of n (read-from first w) ≡ Corrupt
   unfolding read-from
   no-header e = rw e
 
   -- with what the walks of the code gave
-  pub by-code : header-ok first-record w ≡ true → (v : Surveyed) → v ≡ lots-survey p n nothing-found (read-lots first-record w (records w) 0 (word w first-lot))
-      → (k : FreeChain) → k ≡ free-of (read-free first-record w (depth w) (word w first-free)) → by-walks w v k ≡ survey-of n (read w)
-  by-code e v f k g = ap₂ (by-walks w) f g ∙ sym (by-header e)
+  pub by-code : header-ok first w ≡ true → (v : Surveyed) → v ≡ lots-survey p n nothing-found (read-lots first w (records w) 0 (word w first-lot))
+      → (k : FreeChain) → k ≡ free-of (read-free first w (depth w) (word w first-free)) → by-walks first w v k ≡ survey-of n (read-from first w)
+  by-code e v f k g = ap₂ (by-walks first w) f g ∙ sym (by-header e)

@@ -1,5 +1,5 @@
 -- What the code's walks over a sheet find, by the definitions of Read.antt.
-use Prim.Native.Nat.{ℕ, _+_, _*_, _≤_}
+use Prim.Native.Nat.{ℕ, zero, suc, _+_, _*_, _≤_}
 use mathlib.Core.Bool.{Bool, true, cond, _&&_}
 use mathlib.Core.Option.{Option, none, some}
 use mathlib.Core.List.{List, [], _∷_}
@@ -7,7 +7,7 @@ use lib.ListN.{length}
 use lib.Dec.{leb, ltb, eqb}
 use Rattle.plan.specs.declared.counts.Counts.{Counts}
 use Rattle.plan.specs.Plan.{Stage, end-below}
-use Rattle.plan.specs.Counts.{no-units, units, counts}
+use Rattle.plan.specs.Counts.{no-units, units, add-units, counts}
 use Rattle.plan.specs.Stopping.{earliest}
 use Rattle.sheet.specs.declared.record.Record.{Record}
 use Rattle.sheet.specs.declared.chain.Chain.{Chain}
@@ -20,14 +20,14 @@ use Rattle.sheet.specs.declared.survey.Found.{Found}
 use Rattle.sheet.specs.declared.survey.Surveyed.{Surveyed}
 use Rattle.sheet.specs.declared.survey.Surveyed.the-variants as survey
 use Rattle.plan.specs.Sample.{highest-class}
-use Rattle.sheetmodel.specs.Layout.{least-size, greatest-size, word, field, records, next-unused, first-record, free-tag, closed-lots, closed-units, most-closed}
+use Rattle.sheetmodel.specs.Layout.{least-size, greatest-size, word, field, next, records, next-unused, free-tag, closed-lots, closed-units, most-closed}
 use Rattle.sheetmodel.specs.Contents.{Inspection, Lot, Contents, classes, history, records-of, find}
 use Rattle.sheetmodel.specs.Read.{in-use, read-inspections, undecided, all-undecided-before}
 use Rattle.sheetmodel.specs.Calls.{last-below}
 
 -- the words of a record
 abbrev pub record-at : List ℕ → ℕ → Record
-record-at w j = record { a = field w j 0; b = field w j 1; c = field w j 2; d = field w j 3 }
+record-at w j = record { value = field w j 0; next = field w j 1; link = field w j 2; tag = field w j 3 }
 
 -- 48 to 65,536 words, and no record in use beyond them
 pub record Sized (w : List ℕ) : Type 0 where
@@ -36,20 +36,20 @@ pub record Sized (w : List ℕ) : Type 0 where
   pub room : word w next-unused ≤ records w
 
 -- the totals are within their bounds
-abbrev pub are-totals : List ℕ → Bool
-are-totals w = leb (closed-lots w) most-closed && leb (closed-units w) (1000 * closed-lots w)
+abbrev pub totals-ok : List ℕ → Bool
+totals-ok w = leb (closed-lots w) most-closed && leb (closed-units w) (1000 * closed-lots w)
 
--- ---- the tests of one record
+-- ---- the tests of one record; `first` is the first record after the header
 
-abbrev pub is-inspection : List ℕ → ℕ → ℕ → ℕ → Bool
-is-inspection w lot serial at =
-    in-use first-record w at && leb (field w at 0) highest-class && eqb (field w at 2) lot && eqb (field w at 3) serial
+abbrev pub is-inspection : ℕ → List ℕ → ℕ → ℕ → ℕ → Bool
+is-inspection first w lot serial at =
+    in-use first w at && leb (field w at 0) highest-class && eqb (field w at 2) lot && eqb (field w at 3) serial
 
-abbrev pub is-free : List ℕ → ℕ → ℕ → Bool
-is-free w depth at = in-use first-record w at && eqb (field w at 0) depth && eqb (field w at 2) 0 && eqb (field w at 3) free-tag
+abbrev pub is-free : ℕ → List ℕ → ℕ → ℕ → Bool
+is-free first w depth at = in-use first w at && eqb (field w at 0) depth && eqb (field w at 2) 0 && eqb (field w at 3) free-tag
 
-abbrev pub is-lot : List ℕ → ℕ → ℕ → Bool
-is-lot w above at = in-use first-record w at && ltb above (field w at 0) && eqb (field w at 3) 0
+abbrev pub is-lot : ℕ → List ℕ → ℕ → ℕ → Bool
+is-lot first w above at = in-use first w at && ltb above (field w at 0) && eqb (field w at 3) 0
 
 -- ---- a lot's inspections
 
@@ -68,8 +68,8 @@ tested p test (i ∷ is) = may-go-on p test (length is) (counts (classes is)) &&
 
 -- the units of the chain that was read, if the test holds of it
 abbrev pub chain-of : (List Inspection → Bool) → Option (List Inspection) → Chain
-chain-of test none = chain.Cut
-chain-of test (some is) = cond (test is) (chain.Whole (counts (classes is))) chain.Cut
+chain-of test none = chain.Corrupt
+chain-of test (some is) = cond (test is) (chain.Whole (counts (classes is))) chain.Corrupt
 
 -- the units of older and of newer inspections
 abbrev pub all-units : Counts → Counts → Counts
@@ -77,28 +77,34 @@ all-units c d = record { good = c .good + d .good; marginal = c .marginal + d .m
 
 -- a chain that is whole only if it is undecided
 abbrev pub if-undecided : List Stage → Chain → Chain
-if-undecided p chain.Cut = chain.Cut
-if-undecided p (chain.Whole c) = cond (undecided (earliest p c)) (chain.Whole c) chain.Cut
+if-undecided p chain.Corrupt = chain.Corrupt
+if-undecided p (chain.Whole c) = cond (undecided (earliest p c)) (chain.Whole c) chain.Corrupt
 
 -- a chain with newer inspections of the units d
 abbrev pub with-newer : Counts → Chain → Chain
-with-newer d chain.Cut = chain.Cut
+with-newer d chain.Corrupt = chain.Corrupt
 with-newer d (chain.Whole c) = chain.Whole (all-units c d)
 
 -- newer inspections, and the older ones after them, of which there are `test`: these are tested, and so are those at the stage ends below
-abbrev pub with-older : List Stage → List ℕ → ℕ → ℕ → Part → Chain
-with-older p w lot test part.Cut = chain.Cut
-with-older p w lot test (part.Whole c next) =
-    with-newer c (if-undecided p (chain-of (tested p (end-below 0 p test)) (read-inspections first-record w lot test next)))
+abbrev pub with-older : List Stage → ℕ → List ℕ → ℕ → ℕ → Part → Chain
+with-older p first w lot test part.Corrupt = chain.Corrupt
+with-older p first w lot test (part.Whole c next) =
+    with-newer c (if-undecided p (chain-of (tested p (end-below 0 p test)) (read-inspections first w lot test next)))
+
+-- k inspections from the record `at` on, newer than the `stop` oldest ones; their units are added to c
+unfoldable pub newer-part : ℕ → List ℕ → ℕ → ℕ → ℕ → ℕ → Counts → Part
+newer-part first w lot stop zero at c = part.Whole c at
+newer-part first w lot stop (suc k) at c =
+    cond (is-inspection first w lot (stop + suc k) at) (newer-part first w lot stop k (next w at) (add-units (field w at 0) 1 c)) part.Corrupt
 
 abbrev pub part-units : Part → Counts
-part-units part.Cut = no-units
+part-units part.Corrupt = no-units
 part-units (part.Whole c next) = c
 
 -- ---- the free records: as many as were read
 
 abbrev pub free-of : Option (List ℕ) → FreeChain
-free-of none = free.Cut
+free-of none = free.Corrupt
 free-of (some js) = free.Whole (length js)
 
 -- ---- the lots

@@ -1,7 +1,6 @@
 // Chains of records: a lot's inspections, and the free records. Each record is tested before its words
-// are used, so that a damaged chain ends the walk.
+// are used, so that a damaged chain ends the walk. `first` is the first record after the header.
 use crate::layout::FIRST_FREE;
-use crate::layout::FIRST_RECORD;
 use crate::layout::FREE_TAG;
 use crate::layout::NEXT_UNUSED;
 use crate::progress::is_undecided;
@@ -10,61 +9,60 @@ use crate::record::record_at;
 use plan::Counts;
 ghost use mathlib.Core.Path.{_≡_};
 ghost use mathlib.Core.Bool.{true};
-ghost use mathlib.Core.List.{List};
-ghost use Prim.Native.Nat.{_+_, _≤_, _<_};
-ghost use Rattle.plan.specs.Plan.{Stage, stages, total, admitted, end-below};
-ghost use Rattle.plan.specs.Counts.{units, add-units};
+ghost use Prim.Native.Nat.{_+_, _-_, _≤_, _<_};
+ghost use Rattle.plan.specs.Plan.{stages, total, admitted, end-below};
+ghost use Rattle.plan.specs.Counts.{units, no-units, add-units};
 ghost use Rattle.plan.specs.Sample.{highest-class};
-ghost use Rattle.sheetmodel.specs.Layout.{first-record, first-free, word};
+ghost use Rattle.sheetmodel.specs.Layout.{first-free, word};
 ghost use Rattle.sheetmodel.specs.Read.{in-use, serial-at, depth, read-inspections, read-free, undecided-before};
 ghost use Rattle.sheetmodel.specs.Rows.{is-some};
-ghost use Rattle.sheet.specs.Survey.{Sized, is-inspection, is-free, tested, chain-of, all-units, part-units, with-older, free-of};
+ghost use Rattle.sheet.specs.Survey.{Sized, is-inspection, is-free, tested, chain-of, all-units, newer-part, free-of};
 
 // A chain of inspections: damaged, or whole, with its units.
 pub enum Chain {
-    Cut,
+    Corrupt,
     Whole(Counts),
 }
 
 // The newer inspections of a chain: damaged, or whole, with their units and the record after them.
 pub enum Part {
-    Cut,
+    Corrupt,
     Whole(Counts, u32),
 }
 
 // The chain of free records: damaged, or whole, with their number.
 pub enum FreeChain {
-    Cut,
+    Corrupt,
     Whole(u32),
 }
 
 // May a chain have this index?
-pub fn is_used(sheet: &[u32], at: u32) -> bool
+pub fn is_used(sheet: &[u32], first: u32, at: u32) -> bool
     requires { ⌜ Sized (now sheet) ⌝ }
-    ensures { λ r. ⌜ r ≡ in-use first-record (now (sheet .entry)) at ⌝ }
+    ensures { λ r. ⌜ r ≡ in-use first (now (sheet .entry)) at ⌝ }
 {
-    if at < FIRST_RECORD {
+    if at < first {
         return false;
     }
     at < sheet[NEXT_UNUSED]
 }
 
 // Is this the inspection of the lot with this serial?
-fn is_inspection(sheet: &[u32], lot: u32, serial: u32, at: u32) -> bool
+fn is_inspection(sheet: &[u32], first: u32, lot: u32, serial: u32, at: u32) -> bool
     requires { ⌜ Sized (now sheet) ⌝ }
-    ensures { λ r. ⌜ r ≡ is-inspection (now (sheet .entry)) lot serial at ⌝ }
+    ensures { λ r. ⌜ r ≡ is-inspection first (now (sheet .entry)) lot serial at ⌝ }
 {
-    if !is_used(sheet, at) {
+    if !is_used(sheet, first, at) {
         return false;
     }
     let r = record_at(sheet, at);
-    if plan::HIGHEST_CLASS < r.a {
+    if plan::HIGHEST_CLASS < r.value {
         return false;
     }
-    if r.c != lot {
+    if r.link != lot {
         return false;
     }
-    r.d == serial
+    r.tag == serial
 }
 
 // One unit more, of a class up to 2. Classes come in no order, so that a branch on them is often
@@ -93,22 +91,21 @@ fn all_units(older: Counts, newer: Counts) -> Counts
 }
 
 // The inspections of a lot from the record `at` on, whose serials fall from `serial` to `stop` + 1: the
-// units and the record after them. Whatever the plan, the `stop` older ones are then left to be tested.
-fn newer_part(sheet: &[u32], lot: u32, serial: u32, at: u32, stop: u32) -> Part
+// units and the record after them. The `stop` older ones are then left to be tested.
+fn newer_part(sheet: &[u32], first: u32, lot: u32, serial: u32, at: u32, stop: u32) -> Part
     requires { ⌜ Sized (now sheet) × (serial ≤ 1000) × (stop < serial) ⌝ }
-    ensures { λ r. ⌜ units (part-units r) ≤ serial ⌝ }
-    ensures { λ r. ⌜ ((p : List Stage) → chain-of (tested p stop) (read-inspections first-record (now (sheet .entry)) lot serial at) ≡ with-older p (now (sheet .entry)) lot stop r) ⌝ }
+    ensures { λ r. ⌜ r ≡ newer-part first (now (sheet .entry)) lot stop (serial - stop) at no-units ⌝ }
 {
     let mut left = serial;
     let mut next = at;
     let mut c = plan::no_units();
     while stop < left {
-        if !is_inspection(sheet, lot, left, next) {
-            return Part::Cut;
+        if !is_inspection(sheet, first, lot, left, next) {
+            return Part::Corrupt;
         }
         let r = record_at(sheet, next);
-        c = with_unit(r.a, c);
-        next = r.b;
+        c = with_unit(r.value, c);
+        next = r.next;
         left -= 1;
     }
     Part::Whole(c, next)
@@ -117,26 +114,34 @@ fn newer_part(sheet: &[u32], lot: u32, serial: u32, at: u32, stop: u32) -> Part
 // The inspections of a lot from the record `at` on, whose serials fall from `serial` to 1. The units of
 // the `test` oldest ones must be undecided, and those at each stage end below. They are counted before
 // they are tested, so the older ones come first: a call for each number tested, at most eight deep.
-fn inspections(sheet: &[u32], plan: &[u32], lot: u32, serial: u32, at: u32, test: u32) -> Chain
+fn inspections(
+    sheet: &[u32],
+    first: u32,
+    plan: &[u32],
+    lot: u32,
+    serial: u32,
+    at: u32,
+    test: u32,
+) -> Chain
     requires { ⌜ Sized (now sheet) × (admitted (now plan) ≡ true) × (serial ≤ 1000) × (test < serial) ⌝ }
-    ensures { λ r. ⌜ r ≡ chain-of (tested (stages (now (plan .entry))) test) (read-inspections first-record (now (sheet .entry)) lot serial at) ⌝ }
+    ensures { λ r. ⌜ r ≡ chain-of (tested (stages (now (plan .entry))) test) (read-inspections first (now (sheet .entry)) lot serial at) ⌝ }
 {
-    match newer_part(sheet, lot, serial, at, test) {
-        Part::Cut => Chain::Cut,
+    match newer_part(sheet, first, lot, serial, at, test) {
+        Part::Corrupt => Chain::Corrupt,
         Part::Whole(newer, next) => {
             // before the first unit every lot is undecided
             if test == 0 {
                 if next == 0 {
                     return Chain::Whole(newer);
                 }
-                return Chain::Cut;
+                return Chain::Corrupt;
             }
             let below = plan::end_below(plan, 0, test);
-            match inspections(sheet, plan, lot, test, next, below) {
-                Chain::Cut => Chain::Cut,
+            match inspections(sheet, first, plan, lot, test, next, below) {
+                Chain::Corrupt => Chain::Corrupt,
                 Chain::Whole(older) => {
                     if !is_undecided(plan::earliest(plan, older)) {
-                        return Chain::Cut;
+                        return Chain::Corrupt;
                     }
                     Chain::Whole(all_units(older, newer))
                 }
@@ -147,34 +152,42 @@ fn inspections(sheet: &[u32], plan: &[u32], lot: u32, serial: u32, at: u32, test
 
 // All inspections of a lot from the record `at` on, whose serials fall from `serial` to 1. Nothing is tested:
 // before the first unit every lot is undecided.
-fn whole_chain(sheet: &[u32], plan: &[u32], lot: u32, serial: u32, at: u32) -> Chain
+fn whole_chain(sheet: &[u32], first: u32, plan: &[u32], lot: u32, serial: u32, at: u32) -> Chain
     requires { ⌜ Sized (now sheet) × (admitted (now plan) ≡ true) × (serial ≤ 1000) × (0 < serial) ⌝ }
-    ensures { λ r. ⌜ r ≡ chain-of (tested (stages (now (plan .entry))) 0) (read-inspections first-record (now (sheet .entry)) lot serial at) ⌝ }
+    ensures { λ r. ⌜ r ≡ chain-of (tested (stages (now (plan .entry))) 0) (read-inspections first (now (sheet .entry)) lot serial at) ⌝ }
 {
-    match newer_part(sheet, lot, serial, at, 0) {
-        Part::Cut => Chain::Cut,
+    match newer_part(sheet, first, lot, serial, at, 0) {
+        Part::Corrupt => Chain::Corrupt,
         Part::Whole(c, next) => {
             if next == 0 {
                 return Chain::Whole(c);
             }
-            Chain::Cut
+            Chain::Corrupt
         }
     }
 }
 
 // As `inspections`, where no stage ends below `test`. It does not call itself, so that it is compiled into
 // the walk over the lots; most lots come here.
-fn in_first_stage(sheet: &[u32], plan: &[u32], lot: u32, serial: u32, at: u32, test: u32) -> Chain
+fn in_first_stage(
+    sheet: &[u32],
+    first: u32,
+    plan: &[u32],
+    lot: u32,
+    serial: u32,
+    at: u32,
+    test: u32,
+) -> Chain
     requires { ⌜ Sized (now sheet) × (admitted (now plan) ≡ true) × (serial ≤ 1000) × (0 < test) × (test < serial) × (0 ≡ end-below 0 (stages (now plan)) test) ⌝ }
-    ensures { λ r. ⌜ r ≡ chain-of (tested (stages (now (plan .entry))) test) (read-inspections first-record (now (sheet .entry)) lot serial at) ⌝ }
+    ensures { λ r. ⌜ r ≡ chain-of (tested (stages (now (plan .entry))) test) (read-inspections first (now (sheet .entry)) lot serial at) ⌝ }
 {
-    match newer_part(sheet, lot, serial, at, test) {
-        Part::Cut => Chain::Cut,
-        Part::Whole(newer, next) => match whole_chain(sheet, plan, lot, test, next) {
-            Chain::Cut => Chain::Cut,
+    match newer_part(sheet, first, lot, serial, at, test) {
+        Part::Corrupt => Chain::Corrupt,
+        Part::Whole(newer, next) => match whole_chain(sheet, first, plan, lot, test, next) {
+            Chain::Corrupt => Chain::Corrupt,
             Chain::Whole(older) => {
                 if !is_undecided(plan::earliest(plan, older)) {
-                    return Chain::Cut;
+                    return Chain::Corrupt;
                 }
                 Chain::Whole(all_units(older, newer))
             }
@@ -184,59 +197,66 @@ fn in_first_stage(sheet: &[u32], plan: &[u32], lot: u32, serial: u32, at: u32, t
 
 // The inspections of the lot in the record `lot`, the newest in the record `newest` (0: none). A lot has
 // no more than `most` units, the plan's sample size.
-pub fn lot_inspections(sheet: &[u32], plan: &[u32], most: u32, lot: u32, newest: u32) -> Chain
+pub fn lot_inspections(
+    sheet: &[u32],
+    first: u32,
+    plan: &[u32],
+    most: u32,
+    lot: u32,
+    newest: u32,
+) -> Chain
     requires { ⌜ Sized (now sheet) × (admitted (now plan) ≡ true) × (most ≡ total (stages (now plan))) ⌝ }
-    ensures { λ r. ⌜ r ≡ chain-of (undecided-before (stages (now (plan .entry)))) (read-inspections first-record (now (sheet .entry)) lot (serial-at (now (sheet .entry)) newest) newest) ⌝ }
+    ensures { λ r. ⌜ r ≡ chain-of (undecided-before (stages (now (plan .entry)))) (read-inspections first (now (sheet .entry)) lot (serial-at (now (sheet .entry)) newest) newest) ⌝ }
 {
     if newest == 0 {
         return Chain::Whole(plan::no_units());
     }
-    if !is_used(sheet, newest) {
-        return Chain::Cut;
+    if !is_used(sheet, first, newest) {
+        return Chain::Corrupt;
     }
     let serial = field_of(sheet, newest, 3);
     if serial == 0 {
-        return Chain::Cut;
+        return Chain::Corrupt;
     }
     if most < serial {
-        return Chain::Cut;
+        return Chain::Corrupt;
     }
     if serial == 1 {
-        return whole_chain(sheet, plan, lot, serial, newest);
+        return whole_chain(sheet, first, plan, lot, serial, newest);
     }
     if plan::end_below(plan, 0, serial - 1) == 0 {
-        return in_first_stage(sheet, plan, lot, serial, newest, serial - 1);
+        return in_first_stage(sheet, first, plan, lot, serial, newest, serial - 1);
     }
-    inspections(sheet, plan, lot, serial, newest, serial - 1)
+    inspections(sheet, first, plan, lot, serial, newest, serial - 1)
 }
 
 // Is this the free record of this depth?
-fn is_free(sheet: &[u32], depth: u32, at: u32) -> bool
+fn is_free(sheet: &[u32], first: u32, depth: u32, at: u32) -> bool
     requires { ⌜ Sized (now sheet) ⌝ }
-    ensures { λ r. ⌜ r ≡ is-free (now (sheet .entry)) depth at ⌝ }
+    ensures { λ r. ⌜ r ≡ is-free first (now (sheet .entry)) depth at ⌝ }
 {
-    if !is_used(sheet, at) {
+    if !is_used(sheet, first, at) {
         return false;
     }
     let r = record_at(sheet, at);
-    if r.a != depth {
+    if r.value != depth {
         return false;
     }
-    if r.c != 0 {
+    if r.link != 0 {
         return false;
     }
-    r.d == FREE_TAG
+    r.tag == FREE_TAG
 }
 
 // Is the chain of free records from `at` on whole, of this depth?
-fn is_free_chain(sheet: &[u32], depth: u32, at: u32) -> bool
+fn is_free_chain(sheet: &[u32], first: u32, depth: u32, at: u32) -> bool
     requires { ⌜ Sized (now sheet) ⌝ }
-    ensures { λ r. ⌜ r ≡ is-some (read-free first-record (now (sheet .entry)) depth at) ⌝ }
+    ensures { λ r. ⌜ r ≡ is-some (read-free first (now (sheet .entry)) depth at) ⌝ }
 {
     let mut left = depth;
     let mut next = at;
     while 0 < left {
-        if !is_free(sheet, left, next) {
+        if !is_free(sheet, first, left, next) {
             return false;
         }
         next = field_of(sheet, next, 1);
@@ -246,20 +266,20 @@ fn is_free_chain(sheet: &[u32], depth: u32, at: u32) -> bool
 }
 
 // The chain of free records.
-pub fn free_chain(sheet: &[u32]) -> FreeChain
+pub fn free_chain(sheet: &[u32], first: u32) -> FreeChain
     requires { ⌜ Sized (now sheet) ⌝ }
-    ensures { λ r. ⌜ r ≡ free-of (read-free first-record (now (sheet .entry)) (depth (now (sheet .entry))) (word (now (sheet .entry)) first-free)) ⌝ }
+    ensures { λ r. ⌜ r ≡ free-of (read-free first (now (sheet .entry)) (depth (now (sheet .entry))) (word (now (sheet .entry)) first-free)) ⌝ }
 {
-    let first = sheet[FIRST_FREE];
-    if first == 0 {
+    let at = sheet[FIRST_FREE];
+    if at == 0 {
         return FreeChain::Whole(0);
     }
-    if !is_used(sheet, first) {
-        return FreeChain::Cut;
+    if !is_used(sheet, first, at) {
+        return FreeChain::Corrupt;
     }
-    let depth = field_of(sheet, first, 0);
-    if !is_free_chain(sheet, depth, first) {
-        return FreeChain::Cut;
+    let depth = field_of(sheet, at, 0);
+    if !is_free_chain(sheet, first, depth, at) {
+        return FreeChain::Corrupt;
     }
     FreeChain::Whole(depth)
 }

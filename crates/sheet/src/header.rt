@@ -1,7 +1,6 @@
 // The header of a sheet: is it that of an intact one? Document 01, "Sheet".
 use crate::layout::ACCEPTED_LOTS;
 use crate::layout::BAD_UNITS;
-use crate::layout::FIRST_RECORD;
 use crate::layout::GOOD_UNITS;
 use crate::layout::MARGINAL_UNITS;
 use crate::layout::MOST_CLOSED;
@@ -12,9 +11,9 @@ use crate::layout::STAGE_COUNT;
 ghost use mathlib.Core.Path.{_≡_};
 ghost use Prim.Native.Nat.{_≤_};
 ghost use lib.ListN.{length};
-ghost use Rattle.sheetmodel.specs.Layout.{least-size, greatest-size, first-record};
+ghost use Rattle.sheetmodel.specs.Layout.{least-size, greatest-size};
 ghost use Rattle.sheetmodel.specs.Read.{all-zero, header-ok};
-ghost use Rattle.sheet.specs.Survey.{are-totals};
+ghost use Rattle.sheet.specs.Survey.{totals-ok};
 
 fn is_zero(words: &[u32]) -> bool
     ensures { λ r. ⌜ r ≡ all-zero (now (words .entry)) ⌝ }
@@ -30,9 +29,9 @@ fn is_zero(words: &[u32]) -> bool
 }
 
 // Are the totals within their bounds?
-fn are_totals(sheet: &[u32]) -> bool
+fn totals_ok(sheet: &[u32]) -> bool
     requires { ⌜ least-size ≤ length (now sheet) ⌝ }
-    ensures { λ r. ⌜ r ≡ are-totals (now (sheet .entry)) ⌝ }
+    ensures { λ r. ⌜ r ≡ totals-ok (now (sheet .entry)) ⌝ }
 {
     let lots = sheet[ACCEPTED_LOTS] as u64 + sheet[REJECTED_LOTS] as u64;
     let units = sheet[GOOD_UNITS] as u64 + sheet[MARGINAL_UNITS] as u64 + sheet[BAD_UNITS] as u64;
@@ -42,9 +41,10 @@ fn are_totals(sheet: &[u32]) -> bool
     units <= 1000 * lots
 }
 
-pub fn is_header(sheet: &[u32]) -> bool
+// `first` is the first record after the header.
+pub fn header_ok(sheet: &[u32], first: u32) -> bool
     requires { ⌜ (least-size ≤ length (now sheet)) × (length (now sheet) ≤ greatest-size) ⌝ }
-    ensures { λ r. ⌜ r ≡ header-ok first-record (now (sheet .entry)) ⌝ }
+    ensures { λ r. ⌜ r ≡ header-ok first (now (sheet .entry)) ⌝ }
 {
     let k = sheet[STAGE_COUNT];
     if 7 < k {
@@ -58,11 +58,11 @@ pub fn is_header(sheet: &[u32]) -> bool
         return false;
     }
     let unused = sheet[NEXT_UNUSED] as usize;
-    if unused < FIRST_RECORD as usize {
+    if unused < first as usize {
         return false;
     }
     if sheet.len() / 4 < unused {
         return false;
     }
-    are_totals(sheet)
+    totals_ok(sheet)
 }

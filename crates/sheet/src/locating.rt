@@ -1,4 +1,5 @@
 // The first rows of the table for calls on a sheet: its size, its contents, and the lot of a number.
+use crate::layout::FIRST_RECORD;
 use crate::size::size_ok;
 use crate::survey::Found;
 use crate::survey::Surveyed;
@@ -22,7 +23,7 @@ pub fn locate(sheet: &[u32], lot: u32) -> Located
     if !size_ok(sheet) {
         return Located::Refused(1);
     }
-    match survey(sheet, lot) {
+    match survey(sheet, FIRST_RECORD, lot) {
         Surveyed::Corrupt => Located::Refused(3),
         Surveyed::Intact(f) => Located::At(f),
     }

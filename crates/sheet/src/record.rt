@@ -8,10 +8,10 @@ ghost use Rattle.sheet.specs.Survey.{record-at};
 // The four words of a record: of a lot number, next lot, newest inspection and 0; of an inspection
 // class, next older, its lot's record and serial; of a free record depth, next free, 0 and a tag.
 pub struct Record {
-    pub a: u32,
-    pub b: u32,
-    pub c: u32,
-    pub d: u32,
+    pub value: u32,
+    pub next: u32,
+    pub link: u32,
+    pub tag: u32,
 }
 
 pub fn field_of(sheet: &[u32], j: u32, f: u32) -> u32
@@ -26,10 +26,10 @@ pub fn record_at(sheet: &[u32], j: u32) -> Record
     ensures { λ r. ⌜ r ≡ record-at (now (sheet .entry)) j ⌝ }
 {
     Record {
-        a: field_of(sheet, j, 0),
-        b: field_of(sheet, j, 1),
-        c: field_of(sheet, j, 2),
-        d: field_of(sheet, j, 3),
+        value: field_of(sheet, j, 0),
+        next: field_of(sheet, j, 1),
+        link: field_of(sheet, j, 2),
+        tag: field_of(sheet, j, 3),
     }
 }
 
@@ -40,12 +40,12 @@ pub fn put_field(sheet: &mut [u32], j: u32, f: u32, v: u32)
     sheet[(4 * j + f) as usize] = v;
 }
 
-pub fn put_record(sheet: &mut [u32], j: u32, a: u32, b: u32, c: u32, d: u32)
+pub fn put_record(sheet: &mut [u32], j: u32, value: u32, next: u32, link: u32, tag: u32)
     requires { ⌜ (4 * j + 3 < length (now sheet)) × (length (now sheet) ≤ greatest-size) ⌝ }
-    ensures { λ _. ⌜ now (sheet .exit) ≡ put-record (now (sheet .entry)) j a b c d ⌝ }
+    ensures { λ _. ⌜ now (sheet .exit) ≡ put-record (now (sheet .entry)) j value next link tag ⌝ }
 {
-    put_field(sheet, j, 0, a);
-    put_field(sheet, j, 1, b);
-    put_field(sheet, j, 2, c);
-    put_field(sheet, j, 3, d);
+    put_field(sheet, j, 0, value);
+    put_field(sheet, j, 1, next);
+    put_field(sheet, j, 2, link);
+    put_field(sheet, j, 3, tag);
 }

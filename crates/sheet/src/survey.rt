@@ -1,12 +1,12 @@
-// One walk over a sheet: is it intact, and where is the lot of a number?
+// One walk over a sheet: is it intact, and where is the lot of a number? `first` is the first record after
+// the header.
 use crate::chain::Chain;
 use crate::chain::FreeChain;
 use crate::chain::free_chain;
 use crate::chain::is_used;
 use crate::chain::lot_inspections;
-use crate::header::is_header;
+use crate::header::header_ok;
 use crate::layout::FIRST_LOT;
-use crate::layout::FIRST_RECORD;
 use crate::layout::NEXT_UNUSED;
 use crate::layout::PLAN_START;
 use crate::layout::STAGE_COUNT;
@@ -19,8 +19,8 @@ ghost use lib.ListN.{length};
 ghost use lib.Dec.{eqb};
 ghost use Rattle.plan.specs.Plan.{stages, admitted};
 ghost use Rattle.plan.specs.Counts.{units};
-ghost use Rattle.sheetmodel.specs.Layout.{least-size, greatest-size, next-unused, first-record, first-lot, word, records};
-ghost use Rattle.sheetmodel.specs.Read.{read, read-lots};
+ghost use Rattle.sheetmodel.specs.Layout.{least-size, greatest-size, next-unused, first-lot, word, records};
+ghost use Rattle.sheetmodel.specs.Read.{read-from, read-lots};
 ghost use Rattle.sheet.specs.Survey.{Sized, is-lot, with-lot-found, nothing-found, lots-survey, survey-of};
 
 // What is found for a lot's number: its record and its units, 0 and none where it is not on the sheet;
@@ -39,18 +39,18 @@ pub enum Surveyed {
 }
 
 // Is this a lot's record, with a number above the last one?
-fn is_lot(sheet: &[u32], above: u32, at: u32) -> bool
+fn is_lot(sheet: &[u32], first: u32, above: u32, at: u32) -> bool
     requires { ⌜ Sized (now sheet) ⌝ }
-    ensures { λ r. ⌜ r ≡ is-lot (now (sheet .entry)) above at ⌝ }
+    ensures { λ r. ⌜ r ≡ is-lot first (now (sheet .entry)) above at ⌝ }
 {
-    if !is_used(sheet, at) {
+    if !is_used(sheet, first, at) {
         return false;
     }
     let r = record_at(sheet, at);
-    if r.a <= above {
+    if r.value <= above {
         return false;
     }
-    r.d == 0
+    r.tag == 0
 }
 
 // What is found so far, with the lot in the record `at`, of this number and these units, more.
@@ -73,9 +73,9 @@ fn with_lot_found(sought: u32, f: Found, at: u32, number: u32, c: Counts) -> Fou
 }
 
 // The lots, and their inspections.
-fn lots(sheet: &[u32], plan: &[u32], sought: u32) -> Surveyed
+fn lots(sheet: &[u32], first: u32, plan: &[u32], sought: u32) -> Surveyed
     requires { ⌜ Sized (now sheet) × (admitted (now plan) ≡ true) ⌝ }
-    ensures { λ r. ⌜ r ≡ lots-survey (stages (now (plan .entry))) sought nothing-found (read-lots first-record (now (sheet .entry)) (records (now (sheet .entry))) 0 (word (now (sheet .entry)) first-lot)) ⌝ }
+    ensures { λ r. ⌜ r ≡ lots-survey (stages (now (plan .entry))) sought nothing-found (read-lots first (now (sheet .entry)) (records (now (sheet .entry))) 0 (word (now (sheet .entry)) first-lot)) ⌝ }
 {
     let most = plan::sample_size(plan);
     let mut f = Found {
@@ -91,18 +91,18 @@ fn lots(sheet: &[u32], plan: &[u32], sought: u32) -> Surveyed
         if at == 0 {
             return Surveyed::Intact(f);
         }
-        if !is_lot(sheet, above, at) {
+        if !is_lot(sheet, first, above, at) {
             return Surveyed::Corrupt;
         }
         let r = record_at(sheet, at);
-        match lot_inspections(sheet, plan, most, at, r.c) {
-            Chain::Cut => {
+        match lot_inspections(sheet, first, plan, most, at, r.link) {
+            Chain::Corrupt => {
                 return Surveyed::Corrupt;
             }
             Chain::Whole(c) => {
-                f = with_lot_found(sought, f, at, r.a, c);
-                above = r.a;
-                at = r.b;
+                f = with_lot_found(sought, f, at, r.value, c);
+                above = r.value;
+                at = r.next;
                 left -= 1;
             }
         }
@@ -114,28 +114,28 @@ fn lots(sheet: &[u32], plan: &[u32], sought: u32) -> Surveyed
 }
 
 // Are the records on chains as many as are in use?
-fn are_counted(sheet: &[u32], used: u32, free: u32) -> bool
+fn count_ok(sheet: &[u32], first: u32, used: u32, free: u32) -> bool
     requires { ⌜ least-size ≤ length (now sheet) ⌝ }
-    ensures { λ r. ⌜ r ≡ eqb (first-record + (used + free)) (word (now (sheet .entry)) next-unused) ⌝ }
+    ensures { λ r. ⌜ r ≡ eqb (first + (used + free)) (word (now (sheet .entry)) next-unused) ⌝ }
 {
-    FIRST_RECORD as u64 + (used as u64 + free as u64) == sheet[NEXT_UNUSED] as u64
+    first as u64 + (used as u64 + free as u64) == sheet[NEXT_UNUSED] as u64
 }
 
 // The survey of a sheet for the lot number that is sought.
-pub fn survey(sheet: &[u32], sought: u32) -> Surveyed
+pub fn survey(sheet: &[u32], first: u32, sought: u32) -> Surveyed
     requires { ⌜ (least-size ≤ length (now sheet)) × (length (now sheet) ≤ greatest-size) ⌝ }
-    ensures { λ r. ⌜ r ≡ survey-of sought (read (now (sheet .entry))) ⌝ }
+    ensures { λ r. ⌜ r ≡ survey-of sought (read-from first (now (sheet .entry))) ⌝ }
 {
-    if !is_header(sheet) {
+    if !header_ok(sheet, first) {
         return Surveyed::Corrupt;
     }
     let end = (4 + 5 * sheet[STAGE_COUNT]) as usize;
-    match lots(sheet, &sheet[PLAN_START..end], sought) {
+    match lots(sheet, first, &sheet[PLAN_START..end], sought) {
         Surveyed::Corrupt => Surveyed::Corrupt,
-        Surveyed::Intact(f) => match free_chain(sheet) {
-            FreeChain::Cut => Surveyed::Corrupt,
+        Surveyed::Intact(f) => match free_chain(sheet, first) {
+            FreeChain::Corrupt => Surveyed::Corrupt,
             FreeChain::Whole(free) => {
-                if !are_counted(sheet, f.used, free) {
+                if !count_ok(sheet, first, f.used, free) {
                     return Surveyed::Corrupt;
                 }
                 Surveyed::Intact(f)

@@ -64,13 +64,14 @@ pub record Prior (start : ℕ) (w : List ℕ) (hi above n p : ℕ) : Type 0 wher
   pub least : above ≤ field w p 0
   pub less : field w p 0 < n
 
-module _ (start : ℕ) (base : first-record ≤ start) (w : List ℕ) (hi : ℕ) where
+module _ (start : ℕ) (w : List ℕ) (hi : ℕ) where
   pub find-above : (n above at : ℕ) (ls : List Lot) → n ≤ above → Lots start w hi above ls at → find n ls ≡ none
   find-above n above at [] h c = refl
   find-above n above at (l ∷ ls) h c =
       let r = c .0 .rises in
       rw (ne-eqb n (l .number) (omega arith)) (find-above n (l .number) (field w (l .at) 1) ls (omega arith) (c .2))
 
+module _ (start : ℕ) (base : first-record ≤ start) (w : List ℕ) (hi : ℕ) where
   pub rest : (n : ℕ) (ls : List Lot) (above before : ℕ) → above < n → Lots start w hi above ls (field w before 1) → Rest start w hi n (last-below n before ls) (from n ls)
   rest n [] above before h c = (above, h, c)
   rest n (l ∷ ls) above before h c = go (λ d. rest n ls (l .number) (l .at) d (c .2)) (ltb (l .number) n) refl
@@ -116,7 +117,7 @@ module _ (start : ℕ) (base : first-record ≤ start) (w : List ℕ) (hi : ℕ)
       go ih true p false q z = ih z
       go ih false p true q z = let y : k ≡ l = cc in (ls, ap (λ (m : Lot). m ∷ ls) y, ap (λ (m : Lot). m .number) (sym y) ∙ sym (eqb-true n (k .number) q))
       go ih false p false q z =
-          let y : find n ls ≡ none = find-above n (k .number) (field w (k .at) 1) ls (ltb-false (k .number) n p) (c .2) in
+          let y : find n ls ≡ none = find-above start w hi n (k .number) (field w (k .at) 1) ls (ltb-false (k .number) n p) (c .2) in
           let x : _≡_ {A = ℕ} 0 1 = cc in absurd (omega arith)
 
   -- where n finds none, the lots from n on lie above n

@@ -9,12 +9,11 @@ use borrow.Fn.PlainCycle.{Measures, is, falls, and}
 use Rattle.plan.specs.Plan.{stages}
 use Rattle.plan.specs.Counts.{units}
 use Rattle.plan.proofs.Promise.{promise, shape}
-use Rattle.sheet.specs.declared.chain.Chain.the-variants.{Cut, Whole}
+use Rattle.sheet.specs.declared.chain.Chain.the-variants.{Corrupt, Whole}
 use Rattle.sheet.specs.declared.chain.Part.the-variants as part
-use Rattle.sheetmodel.specs.Layout.{first-record}
 use Rattle.sheetmodel.specs.Read.{read-inspections, undecided}
 use Rattle.sheet.specs.Survey.{tested, chain-of, with-older, with-newer, if-undecided}
-use Rattle.sheet.proofs.ChainSteps.{none-older, not-none-older, older-by, whole-units}
+use Rattle.sheet.proofs.ChainSteps.{newer-chain, newer-units as units-of-newer, none-older, not-none-older, older-by, whole-units}
 use Rattle.plan.proofs.earliest.Reads as earliest-reads
 use Rattle.plan.proofs.end_below.Reads as end-below-reads
 use Rattle.sheet.proofs.chain.all_units.Reads as all-units-reads
@@ -27,7 +26,7 @@ use Rattle.sheet.proofs.chain.+inspections.{statement}
 use Rattle.sheet.proofs.chain.+inspections.Tie.{close}
 
 abbrev μ : Measures 2 kinds.ps ℕ
-μ κs a = a .1 .1 .1 .0
+μ κs a = a .1 .1 .1 .1 .0
 
 abbrev given : ℕ → In 2 kinds.ps
 given t = and 2 kinds.ps (is 2 kinds.ps μ t) inspections.Pre
@@ -56,17 +55,18 @@ module _ (t : ℕ) where
 
   newer-passed : (c : Newer) →
       let a = c .before .before .before .before .before .before .args in
-      chain-of (tested (stages (a .plan .now)) (a .test)) (read-inspections first-record (a .sheet .now) (a .lot) (a .serial) (a .at)) ≡
-      with-older (stages (a .plan .now)) (a .sheet .now) (a .lot) (a .test) (part.Whole (c .before .newer .given .0 .0) (c .before .newer .given .0 .1 .0))
+      chain-of (tested (stages (a .plan .now)) (a .test)) (read-inspections (a .first) (a .sheet .now) (a .lot) (a .serial) (a .at)) ≡
+      with-older (stages (a .plan .now)) (a .first) (a .sheet .now) (a .lot) (a .test) (part.Whole (c .before .newer .given .0 .0) (c .before .newer .given .0 .1 .0))
   newer-passed c =
       let a = c .before .before .before .before .before .before .args in
-      c .before .before .before .newer-part .ensures .1 (stages (a .plan .now))
-      ∙ ap (with-older (stages (a .plan .now)) (a .sheet .now) (a .lot) (a .test)) (c .before .newer .given .1)
+      newer-chain (a .first) (a .sheet .now) (a .lot) (stages (a .plan .now)) (a .test) (a .serial) (a .at) (c .before .before .before .before .before .before .pre .1 .3) _
+      (sym (c .before .newer .given .1) ∙ c .before .before .before .newer-part .ensures)
 
   newer-units : (c : Newer) → units (c .before .newer .given .0 .0) ≤ 1000
   newer-units c =
-      let fewer : units (c .before .newer .given .0 .0) ≤ c .before .before .before .before .before .before .args .serial = rw (c .before .newer .given .1) at (c .before .before .before .newer-part .ensures .0) in
-      omega (arith, c .before .before .before .before .before .before .pre .1 .2)
+      let s = c .before .before .before .before .before .before in
+      let a = s .args in
+      omega (arith, s .pre .1 .2, units-of-newer (a .first) (a .sheet .now) (a .lot) (a .test) (a .serial) (a .at) (c .before .newer .given .0 .0) _ (sym (c .before .newer .given .1) ∙ c .before .before .before .newer-part .ensures))
 
   returns : lts.Need-returns (calls t) (given t) inspections.Post
   returns c =
@@ -75,13 +75,13 @@ module _ (t : ℕ) where
       let a = s .args in
       sym
       (newer-passed n
-      ∙ none-older (a .sheet .now) (a .lot) (stages (a .plan .now)) (a .test) _ _ (promise (a .plan .now) (s .pre .1 .1) .empty) (c .before .if1 .taken) (c .if2 .taken))
+      ∙ none-older (a .first) (a .sheet .now) (a .lot) (stages (a .plan .now)) (a .test) _ _ (promise (a .plan .now) (s .pre .1 .1) .empty) (c .before .if1 .taken) (c .if2 .taken))
 
   returns-2 : lts.Need-returns-2 (calls t) (given t) inspections.Post
   returns-2 c =
       let n = c .before .before in
       let a = n .before .before .before .before .before .before .args in
-      sym (newer-passed n ∙ not-none-older (a .sheet .now) (a .lot) (stages (a .plan .now)) (a .test) _ _ (c .before .if1 .taken) (c .if2 .left))
+      sym (newer-passed n ∙ not-none-older (a .first) (a .sheet .now) (a .lot) (stages (a .plan .now)) (a .test) _ _ (c .before .if1 .taken) (c .if2 .left))
 
   end-below-requires : lts.Need-end-below-requires (calls t) (given t) inspections.Post
   end-below-requires c κs =
@@ -100,14 +100,14 @@ module _ (t : ℕ) where
   older-passed : (c : Older) →
       let n = c .before .before .before .before .before .before in
       let a = n .before .before .before .before .before .before .args in
-      chain-of (tested (stages (a .plan .now)) (a .test)) (read-inspections first-record (a .sheet .now) (a .lot) (a .serial) (a .at)) ≡
+      chain-of (tested (stages (a .plan .now)) (a .test)) (read-inspections (a .first) (a .sheet .now) (a .lot) (a .serial) (a .at)) ≡
       with-newer (n .before .newer .given .0 .0) (if-undecided (stages (a .plan .now)) (Whole (c .before .older .given .0 .0)))
   older-passed c =
       let n = c .before .before .before .before .before .before in
       let a = n .before .before .before .before .before .before .args in
       let e = c .before .before .before .before .end-below in
       newer-passed n
-      ∙ older-by (a .sheet .now) (a .lot) (stages (a .plan .now)) (a .test) _ _ (e .result) (e .ensures) (Whole (c .before .older .given .0 .0))
+      ∙ older-by (a .first) (a .sheet .now) (a .lot) (stages (a .plan .now)) (a .test) _ _ (e .result) (e .ensures) (Whole (c .before .older .given .0 .0))
       (sym (c .before .older .given .1) ∙ c .before .before .before .inspections .ensures)
 
   older-units : (c : Older) → units (c .before .older .given .0 .0) ≤ 1000
@@ -119,7 +119,7 @@ module _ (t : ℕ) where
         arith,
         s .pre .1 .2,
         s .pre .1 .3,
-        whole-units (a .sheet .now) (a .lot) (tested (stages (a .plan .now)) (c .before .before .before .before .end-below .result)) (a .test) (n .before .newer .given .0 .1 .0)
+        whole-units (a .first) (a .sheet .now) (a .lot) (tested (stages (a .plan .now)) (c .before .before .before .before .end-below .result)) (a .test) (n .before .newer .given .0 .1 .0)
             (c .before .older .given .0 .0) (sym (c .before .before .before .inspections .ensures) ∙ c .before .older .given .1),
       )
 
@@ -141,7 +141,7 @@ module _ (t : ℕ) where
   returns-4 c =
       let a = c .before .before .before .before .before .args in
       let n = c .before .before .newer-part in
-      sym (n .ensures .1 (stages (a .plan .now)) ∙ ap (with-older (stages (a .plan .now)) (a .sheet .now) (a .lot) (a .test)) (c .enum-told .given .1))
+      sym (newer-chain (a .first) (a .sheet .now) (a .lot) (stages (a .plan .now)) (a .test) (a .serial) (a .at) (c .before .before .before .before .before .pre .1 .3) _ (sym (c .enum-told .given .1) ∙ n .ensures))
 
   returns-5 : lts.Need-returns-5 (calls t) (given t) inspections.Post
   returns-5 c =
@@ -150,7 +150,7 @@ module _ (t : ℕ) where
       let e = c .before .before .before .end-below in
       sym
       (newer-passed n
-      ∙ older-by (a .sheet .now) (a .lot) (stages (a .plan .now)) (a .test) _ _ (e .result) (e .ensures) Cut
+      ∙ older-by (a .first) (a .sheet .now) (a .lot) (stages (a .plan .now)) (a .test) _ _ (e .result) (e .ensures) Corrupt
       (sym (c .enum-told2 .given .1) ∙ c .before .before .inspections .ensures))
 
   returns-6 : lts.Need-returns-6 (calls t) (given t) inspections.Post

@@ -13,16 +13,16 @@ returns c = rw (sym (c .before .is-used .ensures) ∙ not-true _ (c .if1 .taken)
 record-at-requires : tie.Need-record-at-requires
 record-at-requires c κs =
     let s = c .before .before .before in
-    (record-within (s .args .sheet .now) (s .args .at) (s .pre) (sym (c .before .is-used .ensures) ∙ not-false _ (c .if1 .left)), s .pre .short)
+    (record-within (s .args .first) (s .args .sheet .now) (s .args .at) (s .pre) (sym (c .before .is-used .ensures) ∙ not-false _ (c .if1 .left)), s .pre .short)
 
 returns-2 : tie.Need-returns-2
-returns-2 c = rw (sym (c .before .before .before .before .is-used .ensures) ∙ not-false _ (c .before .before .before .if1 .left), ne-eqb _ _ (rw (ap (λ (r : Record). r .a) (c .before .before .record-at .ensures)) at (c .if2 .taken)))
+returns-2 c = rw (sym (c .before .before .before .before .is-used .ensures) ∙ not-false _ (c .before .before .before .if1 .left), ne-eqb _ _ (rw (ap (λ (r : Record). r .value) (c .before .before .record-at .ensures)) at (c .if2 .taken)))
 
 returns-3 : tie.Need-returns-3
-returns-3 c = rw (sym (c .before .before .before .before .before .before .is-used .ensures) ∙ not-false _ (c .before .before .before .before .before .if1 .left), eq-eqb _ _ (rw (ap (λ (r : Record). r .a) (c .before .before .before .before .record-at .ensures)) at (c .before .before .if2 .left)), ne-eqb _ _ (rw (ap (λ (r : Record). r .c) (c .before .before .before .before .record-at .ensures)) at (c .if3 .taken)))
+returns-3 c = rw (sym (c .before .before .before .before .before .before .is-used .ensures) ∙ not-false _ (c .before .before .before .before .before .if1 .left), eq-eqb _ _ (rw (ap (λ (r : Record). r .value) (c .before .before .before .before .record-at .ensures)) at (c .before .before .if2 .left)), ne-eqb _ _ (rw (ap (λ (r : Record). r .link) (c .before .before .before .before .record-at .ensures)) at (c .if3 .taken)))
 
 returns-4 : tie.Need-returns-4
-returns-4 c = rw (sym (c .before .before .before .before .before .before .before .is-used .ensures) ∙ not-false _ (c .before .before .before .before .before .before .if1 .left), eq-eqb _ _ (rw (ap (λ (r : Record). r .a) (c .before .before .before .before .before .record-at .ensures)) at (c .before .before .before .if2 .left)), eq-eqb _ _ (rw (ap (λ (r : Record). r .c) (c .before .before .before .before .before .record-at .ensures)) at (c .before .if3 .left)), ap (λ (r : Record). r .d) (c .before .before .before .before .before .record-at .ensures))
+returns-4 c = rw (sym (c .before .before .before .before .before .before .before .is-used .ensures) ∙ not-false _ (c .before .before .before .before .before .before .if1 .left), eq-eqb _ _ (rw (ap (λ (r : Record). r .value) (c .before .before .before .before .before .record-at .ensures)) at (c .before .before .before .if2 .left)), eq-eqb _ _ (rw (ap (λ (r : Record). r .link) (c .before .before .before .before .before .record-at .ensures)) at (c .before .if3 .left)), ap (λ (r : Record). r .tag) (c .before .before .before .before .before .record-at .ensures))
 
 pub is-free-spec : {M : Type 1} → statement M
 is-free-spec =

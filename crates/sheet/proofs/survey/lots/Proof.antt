@@ -8,8 +8,8 @@ use Rattle.plan.specs.Plan.{stages}
 use Rattle.plan.specs.Counts.{units}
 use Rattle.plan.proofs.Promise.{shape}
 use Rattle.sheet.specs.declared.survey.Found.{Found}
-use Rattle.sheet.specs.declared.chain.Chain.the-variants.{Cut, Whole}
-use Rattle.sheetmodel.specs.Layout.{word, records, first-lot, first-record}
+use Rattle.sheet.specs.declared.chain.Chain.the-variants.{Corrupt, Whole}
+use Rattle.sheetmodel.specs.Layout.{word, records, first-lot}
 use Rattle.sheetmodel.specs.Read.{serial-at, read-lots}
 use Rattle.sheet.specs.Survey.{nothing-found, lots-survey}
 use Rattle.sheet.proofs.Used.{lot-within}
@@ -18,13 +18,13 @@ use Rattle.sheet.proofs.survey.lots.Statement.{statement}
 use Rattle.sheet.proofs.survey.lots.Tie as tie
 
 abbrev Inv-loop : tie.InvT-loop
-Inv-loop sheet plan sought most f₀ left₀ above₀ at₀ f left above at =
+Inv-loop sheet first plan sought most f₀ left₀ above₀ at₀ f left above at =
     (left ≤ records sheet) × (f .used + 1001 * left ≤ 1001 * records sheet) ×
-    (lots-survey (stages plan) sought nothing-found (read-lots first-record sheet (records sheet) 0 (word sheet first-lot)) ≡
-    lots-survey (stages plan) sought f (read-lots first-record sheet left above at))
+    (lots-survey (stages plan) sought nothing-found (read-lots first sheet (records sheet) 0 (word sheet first-lot)) ≡
+    lots-survey (stages plan) sought f (read-lots first sheet left above at))
 
 abbrev μ-loop : tie.MeasureT-loop
-μ-loop sheet plan sought most f₀ left₀ above₀ at₀ f left above at = left
+μ-loop sheet first plan sought most f₀ left₀ above₀ at₀ f left above at = left
 
 sample-size-requires : tie.Need-sample-size-requires Inv-loop μ-loop
 sample-size-requires c κs =
@@ -40,20 +40,20 @@ returns : tie.Need-returns Inv-loop μ-loop
 returns c =
     let l = c .before .before .loop in
     let a = c .before .before .before .before .before .before .before .before .args in
-    sym (l .inv .2 ∙ no-lot (a .sheet .now) (stages (a .plan .now)) (a .sought) (l .f) (l .left) (l .above) (l .at) (c .if1 .taken))
+    sym (l .inv .2 ∙ no-lot (a .first) (a .sheet .now) (stages (a .plan .now)) (a .sought) (l .f) (l .left) (l .above) (l .at) (c .if1 .taken))
 
 returns-2 : tie.Need-returns-2 Inv-loop μ-loop
 returns-2 c =
     let l = c .before .before .before .before .loop in
     let a = c .before .before .before .before .before .before .before .before .before .before .args in
-    sym (l .inv .2 ∙ not-lot (a .sheet .now) (stages (a .plan .now)) (a .sought) (l .f) (l .left) (l .above) (l .at) (c .before .before .before .loop-test .taken) (c .before .before .if1 .left)
+    sym (l .inv .2 ∙ not-lot (a .first) (a .sheet .now) (stages (a .plan .now)) (a .sought) (l .f) (l .left) (l .above) (l .at) (c .before .before .before .loop-test .taken) (c .before .before .if1 .left)
     (sym (c .before .is-lot .ensures) ∙ not-true _ (c .if2 .taken)))
 
 record-at-requires : tie.Need-record-at-requires Inv-loop μ-loop
 record-at-requires c κs =
     let l = c .before .before .before .before .loop in
     let s = c .before .before .before .before .before .before .before .before .before .before in
-    (lot-within (s .args .sheet .now) (l .above) (l .at) (s .pre .0) (sym (c .before .is-lot .ensures) ∙ not-false _ (c .if2 .left)), s .pre .0 .short)
+    (lot-within (s .args .first) (s .args .sheet .now) (l .above) (l .at) (s .pre .0) (sym (c .before .is-lot .ensures) ∙ not-false _ (c .if2 .left)), s .pre .0 .short)
 
 lot-inspections-requires : tie.Need-lot-inspections-requires Inv-loop μ-loop
 lot-inspections-requires c κs =
@@ -66,8 +66,8 @@ returns-3 c =
     let a = c .before .before .before .before .before .before .before .before .before .before .before .before .before .before .args in
     let r = c .before .before .before .record-at in
     let d = c .before .before .before .before in
-    sym (l .inv .2 ∙ next-lot (a .sheet .now) (stages (a .plan .now)) (a .sought) (l .f) (l .left) (l .above) (l .at) (d .before .before .before .loop-test .taken) (d .before .before .if1 .left)
-    (sym (d .before .is-lot .ensures) ∙ not-false _ (d .if2 .left)) (r .result) (r .ensures) Cut (sym (c .enum-told .given .1) ∙ c .before .before .lot-inspections .ensures))
+    sym (l .inv .2 ∙ next-lot (a .first) (a .sheet .now) (stages (a .plan .now)) (a .sought) (l .f) (l .left) (l .above) (l .at) (d .before .before .before .loop-test .taken) (d .before .before .if1 .left)
+    (sym (d .before .is-lot .ensures) ∙ not-false _ (d .if2 .left)) (r .result) (r .ensures) Corrupt (sym (c .enum-told .given .1) ∙ c .before .before .lot-inspections .ensures))
 
 -- the units of the lot
 lot-units : (c : tie.After-known-told Inv-loop μ-loop) → units (c .before .c .given .0 .0) ≤ 1000
@@ -78,7 +78,7 @@ lot-units c =
     omega (
       arith,
       shape (s .args .plan .now) (s .pre .1) .thousand-units,
-      chain-units (s .args .sheet .now) (l .at) (s .args .plan .now) (s .pre .1) (serial-at (s .args .sheet .now) (r .c)) (r .c) (c .before .c .given .0 .0) (sym (c .before .before .before .lot-inspections .ensures) ∙ c .before .c .given .1),
+      chain-units (s .args .first) (s .args .sheet .now) (l .at) (s .args .plan .now) (s .pre .1) (serial-at (s .args .sheet .now) (r .link)) (r .link) (c .before .c .given .0 .0) (sym (c .before .before .before .lot-inspections .ensures) ∙ c .before .c .given .1),
     )
 
 with-lot-found-requires : tie.Need-with-lot-found-requires Inv-loop μ-loop
@@ -94,7 +94,7 @@ loop-again c =
     let d = c .before .before .before .before .before .before in
     let w = c .before .before .c .given in
     let u = ap (λ (f : Found). f .used) (c .with-lot-found .ensures) in
-    let next = next-lot (a .sheet .now) (stages (a .plan .now)) (a .sought) (l .f) (l .left) (l .above) (l .at) (d .before .before .before .loop-test .taken) (d .before .before .if1 .left)
+    let next = next-lot (a .first) (a .sheet .now) (stages (a .plan .now)) (a .sought) (l .f) (l .left) (l .above) (l .at) (d .before .before .before .loop-test .taken) (d .before .before .if1 .left)
     (sym (d .before .is-lot .ensures) ∙ not-false _ (d .if2 .left)) (r .result) (r .ensures) (Whole (w .0 .0)) (sym (w .1) ∙ c .before .before .before .before .lot-inspections .ensures) in
     (omega arith, omega (arith, lot-units (c .before)), l .inv .2 ∙ next ∙ rw (c .with-lot-found .ensures))
 
@@ -102,13 +102,13 @@ returns-4 : tie.Need-returns-4 Inv-loop μ-loop
 returns-4 c =
     let l = c .before .before .loop in
     let a = c .before .before .before .before .before .before .before .before .args in
-    sym (l .inv .2 ∙ no-lot (a .sheet .now) (stages (a .plan .now)) (a .sought) (l .f) (l .left) (l .above) (l .at) (c .if3 .taken))
+    sym (l .inv .2 ∙ no-lot (a .first) (a .sheet .now) (stages (a .plan .now)) (a .sought) (l .f) (l .left) (l .above) (l .at) (c .if3 .taken))
 
 returns-5 : tie.Need-returns-5 Inv-loop μ-loop
 returns-5 c =
     let l = c .before .before .loop in
     let a = c .before .before .before .before .before .before .before .before .args in
-    sym (l .inv .2 ∙ none-left (a .sheet .now) (stages (a .plan .now)) (a .sought) (l .f) (l .left) (l .above) (l .at) (omega (arith, c .before .loop-test .left)) (c .if3 .left))
+    sym (l .inv .2 ∙ none-left (a .first) (a .sheet .now) (stages (a .plan .now)) (a .sought) (l .f) (l .left) (l .above) (l .at) (omega (arith, c .before .loop-test .left)) (c .if3 .left))
 
 pub lots-spec : {M : Type 1} → statement M
 lots-spec =

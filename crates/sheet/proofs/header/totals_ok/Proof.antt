@@ -1,9 +1,9 @@
--- `sheet::are_totals` meets its contract: the sums fit in 64 bits. Assumes nothing.
+-- `sheet::totals_ok` meets its contract: the sums fit in 64 bits. Assumes nothing.
 use borrow.Author.Needs.{needs}
 use native.Mathlib.Omega.{arith}
 use borrow.Author.Tests.{le-leb, lt-leb}
-use Rattle.sheet.proofs.header.are_totals.Statement.{statement}
-use Rattle.sheet.proofs.header.are_totals.Tie as tie
+use Rattle.sheet.proofs.header.totals_ok.Statement.{statement}
+use Rattle.sheet.proofs.header.totals_ok.Tie as tie
 
 returns : tie.Need-returns
 returns c = rw (lt-leb _ _ (c .if1 .taken))
@@ -11,8 +11,8 @@ returns c = rw (lt-leb _ _ (c .if1 .taken))
 returns-2 : tie.Need-returns-2
 returns-2 c = rw (le-leb _ _ (c .if1 .left))
 
-pub are-totals-spec : {M : Type 1} → statement M
-are-totals-spec =
+pub totals-ok-spec : {M : Type 1} → statement M
+totals-ok-spec =
     tie.close
     (tie.spec
     (λ c. search needs)

@@ -1,14 +1,14 @@
--- `sheet::is_header` meets its contract: one test after the other. Assumes nothing.
+-- `sheet::header_ok` meets its contract: one test after the other. Assumes nothing.
 use borrow.Author.Needs.{needs}
 use borrow.Author.Tests.{le-leb, lt-leb, not-true, not-false}
 use mathlib.Core.Path.{refl, sym, ap, _∙_}
 use native.Mathlib.Omega.{arith}
 use Rattle.plan.specs.Plan.{admitted}
-use Rattle.sheetmodel.specs.Layout.{word, next-unused, first-record, records}
+use Rattle.sheetmodel.specs.Layout.{word, next-unused, records}
 use Rattle.sheetmodel.specs.Read.{all-zero}
 use Rattle.sheet.proofs.HeaderSteps.{too-many, plan-part, unused-part}
-use Rattle.sheet.proofs.header.is_header.Statement.{statement}
-use Rattle.sheet.proofs.header.is_header.Tie as tie
+use Rattle.sheet.proofs.header.header_ok.Statement.{statement}
+use Rattle.sheet.proofs.header.header_ok.Tie as tie
 
 returns : tie.Need-returns
 returns c =
@@ -34,7 +34,7 @@ returns-4 c =
     rw (
       ap admitted (sym (plan-part (s .args .sheet .now) (s .pre .0) _ refl)) ∙ sym (c .before .before .before .before .before .before .admitted .ensures) ∙ not-false _ (c .before .before .before .before .before .if2 .left),
       ap all-zero (sym (unused-part (s .args .sheet .now) (s .pre .0) _ refl)) ∙ sym (c .before .before .before .is-zero .ensures) ∙ not-false _ (c .before .before .if3 .left),
-      lt-leb first-record (word (s .args .sheet .now) next-unused) (c .if4 .taken),
+      lt-leb (s .args .first) (word (s .args .sheet .now) next-unused) (c .if4 .taken),
     )
 
 returns-5 : tie.Need-returns-5
@@ -43,7 +43,7 @@ returns-5 c =
     rw (
       ap admitted (sym (plan-part (s .args .sheet .now) (s .pre .0) _ refl)) ∙ sym (c .before .before .before .before .before .before .before .admitted .ensures) ∙ not-false _ (c .before .before .before .before .before .before .if2 .left),
       ap all-zero (sym (unused-part (s .args .sheet .now) (s .pre .0) _ refl)) ∙ sym (c .before .before .before .before .is-zero .ensures) ∙ not-false _ (c .before .before .before .if3 .left),
-      le-leb first-record (word (s .args .sheet .now) next-unused) (c .before .if4 .left),
+      le-leb (s .args .first) (word (s .args .sheet .now) next-unused) (c .before .if4 .left),
       lt-leb (word (s .args .sheet .now) next-unused) (records (s .args .sheet .now)) (c .if5 .taken),
     )
 
@@ -53,12 +53,12 @@ returns-6 c =
     rw (
       ap admitted (sym (plan-part (s .args .sheet .now) (s .pre .0) _ refl)) ∙ sym (c .before .before .before .before .before .before .before .before .admitted .ensures) ∙ not-false _ (c .before .before .before .before .before .before .before .if2 .left),
       ap all-zero (sym (unused-part (s .args .sheet .now) (s .pre .0) _ refl)) ∙ sym (c .before .before .before .before .before .is-zero .ensures) ∙ not-false _ (c .before .before .before .before .if3 .left),
-      le-leb first-record (word (s .args .sheet .now) next-unused) (c .before .before .if4 .left),
+      le-leb (s .args .first) (word (s .args .sheet .now) next-unused) (c .before .before .if4 .left),
       le-leb (word (s .args .sheet .now) next-unused) (records (s .args .sheet .now)) (c .before .if5 .left),
-    ) (c .are-totals .ensures)
+    ) (c .totals-ok .ensures)
 
-pub is-header-spec : {M : Type 1} → statement M
-is-header-spec =
+pub header-ok-spec : {M : Type 1} → statement M
+header-ok-spec =
     tie.close
     (tie.spec
     (λ c. search needs)
@@ -79,7 +79,6 @@ is-header-spec =
     returns-3
     (λ c. search needs)
     (λ c. omega (arith, c .shared-slice-known3 .given 0))
-    (λ c. search needs)
     returns-4
     returns-5
     (λ c κs. search needs)
