@@ -1,10 +1,12 @@
 -- One step along a chain of inspections, as the code takes it. Assumes nothing.
 use Prim.Native.Nat.{ℕ, zero, suc, _+_, _-_, _/_, _%_, _≤_, _<_}
 use mathlib.Core.Path.{_≡_, refl, sym, ap, _∙_}
+use mathlib.Core.Logic.{_≢_}
 use mathlib.Core.Bool.{Bool, true, false, cond, _&&_, and-false}
 use mathlib.Core.Option.{Option, none, some}
 use mathlib.Core.List.{List, [], _∷_}
 use native.Mathlib.Omega.{arith}
+use native.Mathlib.Decide.{decLt}
 use lib.ListN.{length}
 use borrow.Author.Tests.{eq-eqb, ne-eqb}
 use Rattle.plan.specs.declared.counts.Counts.{Counts}
@@ -54,21 +56,35 @@ one-more p test n i (some is) l = rw (l is refl) (go (tested p (next-test p test
     go true false e = rw e
     go false m e = rw (and-false m)
 
+-- one unit more, by cases on the class
+one-good : (c : Counts) → add-units 0 1 c ≡ record { good = c .good + 1; marginal = c .marginal; bad = c .bad }
+one-good c = counting .good 1 c
+
+one-bad : (c : Counts) → add-units 2 1 c ≡ record { good = c .good; marginal = c .marginal; bad = c .bad + 1 }
+one-bad c = counting .bad 1 c
+
+one-marginal : (x : ℕ) → x ≢ 0 → x ≢ 2 → (c : Counts) → add-units x 1 c ≡ record { good = c .good; marginal = c .marginal + 1; bad = c .bad }
+one-marginal x n m c = counting .marginal x 1 c n m
+
 -- a unit of a class up to 2, by arithmetic
 pub with-unit : (x : ℕ) (c : Counts) → x ≤ highest-class → _≡_ {A = Counts} (record { good = c .good + (2 - x) / 2; marginal = c .marginal + x % 2; bad = c .bad + x / 2 }) (add-units x 1 c)
-unfolding add-units
-with-unit zero c l = same-counts (omega arith) (omega arith) (omega arith)
-with-unit (suc zero) c l = same-counts (omega arith) (omega arith) (omega arith)
-with-unit (suc (suc zero)) c l = same-counts (omega arith) (omega arith) (omega arith)
+with-unit zero c l = same-counts (omega arith) (omega arith) (omega arith) ∙ sym (one-good c)
+with-unit (suc zero) c l = same-counts (omega arith) (omega arith) (omega arith) ∙ sym (one-marginal 1 (λ e. omega arith) (λ e. omega arith) c)
+with-unit (suc (suc zero)) c l = same-counts (omega arith) (omega arith) (omega arith) ∙ sym (one-bad c)
 with-unit (suc (suc (suc x))) c l = absurd (omega arith)
 
 -- units move from the older to the newer ones
 moved : (x : ℕ) (c d : Counts) → all-units (add-units x 1 c) d ≡ all-units c (add-units x 1 d)
-unfolding add-units
-moved zero c d = same-counts (omega arith) refl refl
-moved (suc zero) c d = same-counts refl (omega arith) refl
-moved (suc (suc zero)) c d = same-counts refl refl (omega arith)
-moved (suc (suc (suc x))) c d = same-counts refl (omega arith) refl
+moved x c d = go (decLt 0 x) (decLt x 2) (decLt 2 x)
+  where
+    marginal-moved : x ≢ 0 → x ≢ 2 → all-units (add-units x 1 c) d ≡ all-units c (add-units x 1 d)
+    marginal-moved n m = rw (one-marginal x n m c, one-marginal x n m d) (same-counts refl (omega arith) refl)
+
+    go : Dec (0 < x) → Dec (x < 2) → Dec (2 < x) → all-units (add-units x 1 c) d ≡ all-units c (add-units x 1 d)
+    go (no l) k m = let z : x ≡ 0 = omega arith in rw (z, one-good c, one-good d) (same-counts (omega arith) refl refl)
+    go (yes l) (yes k) m = marginal-moved (λ e. omega arith) (λ e. omega arith)
+    go (yes l) (no k) (yes m) = marginal-moved (λ e. omega arith) (λ e. omega arith)
+    go (yes l) (no k) (no m) = let z : x ≡ 2 = omega arith in rw (z, one-bad c, one-bad d) (same-counts refl refl (omega arith))
 
 newer-moved : (x : ℕ) (d : Counts) (v : Chain) → with-newer d (one-newer x v) ≡ with-newer (add-units x 1 d) v
 newer-moved x d Corrupt = refl
