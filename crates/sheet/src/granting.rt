@@ -2,6 +2,7 @@
 use crate::layout::FIRST_FREE;
 use crate::layout::NEXT_UNUSED;
 use crate::record::field_of;
+use crate::record::record_count;
 ghost use mathlib.Core.Path.{_≡_};
 ghost use Prim.Native.Nat.{_≤_};
 ghost use lib.ListN.{length};
@@ -25,7 +26,7 @@ fn is_full(sheet: &[u32]) -> bool
     if sheet[FIRST_FREE] != 0 {
         return false;
     }
-    sheet.len() / 4 <= sheet[NEXT_UNUSED] as usize
+    record_count(sheet) <= sheet[NEXT_UNUSED] as usize
 }
 
 // The rows about a record that is needed.

@@ -8,12 +8,39 @@ use crate::layout::NEXT_UNUSED;
 use crate::layout::PLAN_START;
 use crate::layout::REJECTED_LOTS;
 use crate::layout::STAGE_COUNT;
+use crate::record::record_count;
 ghost use mathlib.Core.Path.{_≡_};
-ghost use Prim.Native.Nat.{_≤_};
+ghost use Prim.Native.Nat.{_+_, _*_, _≤_};
 ghost use lib.ListN.{length};
-ghost use Rattle.sheetmodel.specs.Layout.{least-size, greatest-size};
+ghost use Rattle.sheetmodel.specs.Layout.{least-size, greatest-size, word, stage-count, plan-start, plan-words, unused-stages};
 ghost use Rattle.sheetmodel.specs.Read.{all-zero, header-ok};
 ghost use Rattle.sheet.specs.Survey.{totals-ok};
+
+// Where the plan's words end.
+fn plan_end(sheet: &[u32]) -> usize
+    requires { ⌜ (least-size ≤ length (now sheet)) × (word (now sheet) stage-count ≤ 7) ⌝ }
+    ensures { λ r. ⌜ r ≡ plan-start + 5 * word (now (sheet .entry)) stage-count ⌝ }
+{
+    PLAN_START + 5 * sheet[STAGE_COUNT] as usize
+}
+
+// The plan in the header.
+pub fn plan_of(sheet: &[u32]) -> &[u32]
+    requires { ⌜ (least-size ≤ length (now sheet)) × (word (now sheet) stage-count ≤ 7) ⌝ }
+    ensures { λ r. ⌜ now r ≡ plan-words (now (sheet .entry)) ⌝ }
+{
+    let end = plan_end(sheet);
+    &sheet[PLAN_START..end]
+}
+
+// The words of the stages that the plan does not use.
+fn unused_stages(sheet: &[u32]) -> &[u32]
+    requires { ⌜ (least-size ≤ length (now sheet)) × (word (now sheet) stage-count ≤ 7) ⌝ }
+    ensures { λ r. ⌜ now r ≡ unused-stages (now (sheet .entry)) ⌝ }
+{
+    let end = plan_end(sheet);
+    &sheet[end..ACCEPTED_LOTS]
+}
 
 fn is_zero(words: &[u32]) -> bool
     ensures { λ r. ⌜ r ≡ all-zero (now (words .entry)) ⌝ }
@@ -46,22 +73,20 @@ pub fn header_ok(sheet: &[u32], first: u32) -> bool
     requires { ⌜ (least-size ≤ length (now sheet)) × (length (now sheet) ≤ greatest-size) ⌝ }
     ensures { λ r. ⌜ r ≡ header-ok first (now (sheet .entry)) ⌝ }
 {
-    let k = sheet[STAGE_COUNT];
-    if 7 < k {
+    if 7 < sheet[STAGE_COUNT] {
         return false;
     }
-    let end = (4 + 5 * k) as usize;
-    if !plan::admitted(&sheet[PLAN_START..end]) {
+    if !plan::admitted(plan_of(sheet)) {
         return false;
     }
-    if !is_zero(&sheet[end..ACCEPTED_LOTS]) {
+    if !is_zero(unused_stages(sheet)) {
         return false;
     }
     let unused = sheet[NEXT_UNUSED] as usize;
     if unused < first as usize {
         return false;
     }
-    if sheet.len() / 4 < unused {
+    if record_count(sheet) < unused {
         return false;
     }
     totals_ok(sheet)

@@ -1,6 +1,5 @@
 // Where a lot stands, by its units and the plan of its sheet.
-use crate::layout::PLAN_START;
-use crate::layout::STAGE_COUNT;
+use crate::header::plan_of;
 use plan::Answer;
 use plan::Counts;
 ghost use mathlib.Core.Path.{_≡_};
@@ -24,8 +23,7 @@ pub fn answer_to(sheet: &[u32], c: Counts) -> Answer
     requires { ⌜ (least-size ≤ length (now sheet)) × (admitted (plan-words (now sheet)) ≡ true) × (units c ≤ 1000) ⌝ }
     ensures { λ r. ⌜ r ≡ earliest (stages (plan-words (now (sheet .entry)))) c ⌝ }
 {
-    let end = (4 + 5 * sheet[STAGE_COUNT]) as usize;
-    plan::earliest(&sheet[PLAN_START..end], c)
+    plan::earliest(plan_of(sheet), c)
 }
 
 pub fn is_undecided(answer: Answer) -> bool

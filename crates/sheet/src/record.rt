@@ -2,7 +2,7 @@
 ghost use mathlib.Core.Path.{_≡_};
 ghost use Prim.Native.Nat.{_+_, _*_, _≤_, _<_};
 ghost use lib.ListN.{length};
-ghost use Rattle.sheetmodel.specs.Layout.{greatest-size, field, put, put-record};
+ghost use Rattle.sheetmodel.specs.Layout.{greatest-size, records, field, put, put-record};
 ghost use Rattle.sheet.specs.Survey.{record-at};
 
 // The four words of a record: of a lot number, next lot, newest inspection and 0; of an inspection
@@ -12,6 +12,13 @@ pub struct Record {
     pub next: u32,
     pub link: u32,
     pub tag: u32,
+}
+
+// How many whole records there are.
+pub fn record_count(sheet: &[u32]) -> usize
+    ensures { λ r. ⌜ r ≡ records (now (sheet .entry)) ⌝ }
+{
+    sheet.len() / 4
 }
 
 pub fn field_of(sheet: &[u32], j: u32, f: u32) -> u32

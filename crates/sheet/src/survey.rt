@@ -6,11 +6,11 @@ use crate::chain::free_chain;
 use crate::chain::is_used;
 use crate::chain::lot_inspections;
 use crate::header::header_ok;
+use crate::header::plan_of;
 use crate::layout::FIRST_LOT;
 use crate::layout::NEXT_UNUSED;
-use crate::layout::PLAN_START;
-use crate::layout::STAGE_COUNT;
 use crate::record::record_at;
+use crate::record::record_count;
 use plan::Counts;
 ghost use mathlib.Core.Path.{_≡_};
 ghost use mathlib.Core.Bool.{true};
@@ -84,7 +84,7 @@ fn lots(sheet: &[u32], first: u32, plan: &[u32], sought: u32) -> Surveyed
         at: 0,
         counts: plan::no_units(),
     };
-    let mut left = sheet.len() / 4;
+    let mut left = record_count(sheet);
     let mut above: u32 = 0;
     let mut at = sheet[FIRST_LOT];
     while 0 < left {
@@ -129,8 +129,7 @@ pub fn survey(sheet: &[u32], first: u32, sought: u32) -> Surveyed
     if !header_ok(sheet, first) {
         return Surveyed::Corrupt;
     }
-    let end = (4 + 5 * sheet[STAGE_COUNT]) as usize;
-    match lots(sheet, first, &sheet[PLAN_START..end], sought) {
+    match lots(sheet, first, plan_of(sheet), sought) {
         Surveyed::Corrupt => Surveyed::Corrupt,
         Surveyed::Intact(f) => match free_chain(sheet, first) {
             FreeChain::Corrupt => Surveyed::Corrupt,

@@ -1,12 +1,13 @@
 -- `sheet::header_ok` meets its contract: one test after the other. Assumes nothing.
 use borrow.Author.Needs.{needs}
 use borrow.Author.Tests.{le-leb, lt-leb, not-true, not-false}
-use mathlib.Core.Path.{refl, sym, ap, _∙_}
+use mathlib.Core.Path.{_≡_, sym, ap, _∙_}
+use mathlib.Core.Bool.{true}
 use native.Mathlib.Omega.{arith}
 use Rattle.plan.specs.Plan.{admitted}
-use Rattle.sheetmodel.specs.Layout.{word, next-unused, records}
+use Rattle.sheetmodel.specs.Layout.{word, next-unused, plan-words, unused-stages, records}
 use Rattle.sheetmodel.specs.Read.{all-zero}
-use Rattle.sheet.proofs.HeaderSteps.{too-many, plan-part, unused-part}
+use Rattle.sheet.proofs.HeaderSteps.{too-many}
 use Rattle.sheet.proofs.header.header_ok.Statement.{statement}
 use Rattle.sheet.proofs.header.header_ok.Tie as tie
 
@@ -16,45 +17,48 @@ returns c =
     rw (too-many (s .args .sheet .now) (s .pre .0) (c .if1 .taken))
 
 returns-2 : tie.Need-returns-2
-returns-2 c =
-    let s = c .before .before .before .before .before .before in
-    rw (ap admitted (sym (plan-part (s .args .sheet .now) (s .pre .0) _ refl)) ∙ sym (c .before .admitted .ensures) ∙ not-true _ (c .if2 .taken))
+returns-2 c = rw (ap admitted (sym (c .before .before .plan-of .ensures)) ∙ sym (c .before .admitted .ensures) ∙ not-true _ (c .if2 .taken))
+
+-- the plan is admitted
+plan-ok : (c : tie.Else2) → admitted (plan-words (c .before .before .before .before .before .before .args .sheet .now)) ≡ true
+plan-ok c = ap admitted (sym (c .before .before .plan-of .ensures)) ∙ sym (c .before .admitted .ensures) ∙ not-false _ (c .if2 .left)
 
 returns-3 : tie.Need-returns-3
 returns-3 c =
-    let s = c .before .before .before .before .before .before .before .before .before in
-    rw (
-      ap admitted (sym (plan-part (s .args .sheet .now) (s .pre .0) _ refl)) ∙ sym (c .before .before .before .before .admitted .ensures) ∙ not-false _ (c .before .before .before .if2 .left),
-      ap all-zero (sym (unused-part (s .args .sheet .now) (s .pre .0) _ refl)) ∙ sym (c .before .is-zero .ensures) ∙ not-true _ (c .if3 .taken),
-    )
+    rw (plan-ok (c .before .before .before), ap all-zero (sym (c .before .before .unused-stages .ensures)) ∙ sym (c .before .is-zero .ensures) ∙ not-true _ (c .if3 .taken))
+
+-- and the unused stages are zero
+rest-ok : (c : tie.Else3) → all-zero (unused-stages (c .before .before .before .before .before .before .before .before .before .args .sheet .now)) ≡ true
+rest-ok c = ap all-zero (sym (c .before .before .unused-stages .ensures)) ∙ sym (c .before .is-zero .ensures) ∙ not-false _ (c .if3 .left)
 
 returns-4 : tie.Need-returns-4
 returns-4 c =
-    let s = c .before .before .before .before .before .before .before .before .before .before .before in
-    rw (
-      ap admitted (sym (plan-part (s .args .sheet .now) (s .pre .0) _ refl)) ∙ sym (c .before .before .before .before .before .before .admitted .ensures) ∙ not-false _ (c .before .before .before .before .before .if2 .left),
-      ap all-zero (sym (unused-part (s .args .sheet .now) (s .pre .0) _ refl)) ∙ sym (c .before .before .before .is-zero .ensures) ∙ not-false _ (c .before .before .if3 .left),
-      lt-leb (s .args .first) (word (s .args .sheet .now) next-unused) (c .if4 .taken),
-    )
+    let z = c .before .before in
+    let s = z .before .before .before .before .before .before .before .before .before in
+    rw (plan-ok (z .before .before .before), rest-ok z, lt-leb (s .args .first) (word (s .args .sheet .now) next-unused) (c .if4 .taken))
 
 returns-5 : tie.Need-returns-5
 returns-5 c =
-    let s = c .before .before .before .before .before .before .before .before .before .before .before .before in
+    let f = c .before .before in
+    let z = f .before .before in
+    let s = z .before .before .before .before .before .before .before .before .before in
     rw (
-      ap admitted (sym (plan-part (s .args .sheet .now) (s .pre .0) _ refl)) ∙ sym (c .before .before .before .before .before .before .before .admitted .ensures) ∙ not-false _ (c .before .before .before .before .before .before .if2 .left),
-      ap all-zero (sym (unused-part (s .args .sheet .now) (s .pre .0) _ refl)) ∙ sym (c .before .before .before .before .is-zero .ensures) ∙ not-false _ (c .before .before .before .if3 .left),
-      le-leb (s .args .first) (word (s .args .sheet .now) next-unused) (c .before .if4 .left),
-      lt-leb (word (s .args .sheet .now) next-unused) (records (s .args .sheet .now)) (c .if5 .taken),
+      plan-ok (z .before .before .before),
+      rest-ok z,
+      le-leb (s .args .first) (word (s .args .sheet .now) next-unused) (f .if4 .left),
+      lt-leb (word (s .args .sheet .now) next-unused) (records (s .args .sheet .now)) (rw (c .before .record-count .ensures) at (c .if5 .taken)),
     )
 
 returns-6 : tie.Need-returns-6
 returns-6 c =
-    let s = c .before .before .before .before .before .before .before .before .before .before .before .before .before in
+    let f = c .before .before .before in
+    let z = f .before .before in
+    let s = z .before .before .before .before .before .before .before .before .before in
     rw (
-      ap admitted (sym (plan-part (s .args .sheet .now) (s .pre .0) _ refl)) ∙ sym (c .before .before .before .before .before .before .before .before .admitted .ensures) ∙ not-false _ (c .before .before .before .before .before .before .before .if2 .left),
-      ap all-zero (sym (unused-part (s .args .sheet .now) (s .pre .0) _ refl)) ∙ sym (c .before .before .before .before .before .is-zero .ensures) ∙ not-false _ (c .before .before .before .before .if3 .left),
-      le-leb (s .args .first) (word (s .args .sheet .now) next-unused) (c .before .before .if4 .left),
-      le-leb (word (s .args .sheet .now) next-unused) (records (s .args .sheet .now)) (c .before .if5 .left),
+      plan-ok (z .before .before .before),
+      rest-ok z,
+      le-leb (s .args .first) (word (s .args .sheet .now) next-unused) (f .if4 .left),
+      le-leb (word (s .args .sheet .now) next-unused) (records (s .args .sheet .now)) (rw (c .before .before .record-count .ensures) at (c .before .if5 .left)),
     ) (c .totals-ok .ensures)
 
 pub header-ok-spec : {M : Type 1} → statement M
@@ -63,23 +67,16 @@ header-ok-spec =
     (tie.spec
     (λ c. search needs)
     returns
-    (λ c. search needs)
-    (λ c. search needs)
-    (λ c. search needs)
-    (λ c. search needs)
-    (λ c. search needs)
-    (λ c. search needs)
+    (λ c κs. search needs)
     (λ c κs. search needs)
     returns-2
-    (λ c. search needs)
-    (λ c. search needs)
-    (λ c. search needs)
-    (λ c. search needs)
+    (λ c κs. search needs)
     (λ c κs. search needs)
     returns-3
     (λ c. search needs)
-    (λ c. omega (arith, c .shared-slice-known3 .given 0))
+    (λ c. omega (arith, c .shared-slice-known3 .given next-unused))
     returns-4
+    (λ c κs. search needs)
     returns-5
     (λ c κs. search needs)
     returns-6)

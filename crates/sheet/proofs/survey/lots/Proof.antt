@@ -33,37 +33,37 @@ sample-size-requires c κs =
 
 loop-holds : tie.Need-loop-holds Inv-loop μ-loop
 loop-holds c =
-    let a = c .before .before .before .before .before .args in
-    (omega arith, omega arith, rw (c .before .no-units .ensures))
+    let a = c .before .before .before .before .before .before .args in
+    rw (c .before .record-count .ensures) (omega arith, omega arith, rw (c .before .before .no-units .ensures))
 
 returns : tie.Need-returns Inv-loop μ-loop
 returns c =
     let l = c .before .before .loop in
-    let a = c .before .before .before .before .before .before .before .before .args in
+    let a = c .before .before .before .before .before .before .before .before .before .args in
     sym (l .inv .2 ∙ no-lot (a .first) (a .sheet .now) (stages (a .plan .now)) (a .sought) (l .f) (l .left) (l .above) (l .at) (c .if1 .taken))
 
 returns-2 : tie.Need-returns-2 Inv-loop μ-loop
 returns-2 c =
     let l = c .before .before .before .before .loop in
-    let a = c .before .before .before .before .before .before .before .before .before .before .args in
+    let a = c .before .before .before .before .before .before .before .before .before .before .before .args in
     sym (l .inv .2 ∙ not-lot (a .first) (a .sheet .now) (stages (a .plan .now)) (a .sought) (l .f) (l .left) (l .above) (l .at) (c .before .before .before .loop-test .taken) (c .before .before .if1 .left)
     (sym (c .before .is-lot .ensures) ∙ not-true _ (c .if2 .taken)))
 
 record-at-requires : tie.Need-record-at-requires Inv-loop μ-loop
 record-at-requires c κs =
     let l = c .before .before .before .before .loop in
-    let s = c .before .before .before .before .before .before .before .before .before .before in
+    let s = c .before .before .before .before .before .before .before .before .before .before .before in
     (lot-within (s .args .first) (s .args .sheet .now) (l .above) (l .at) (s .pre .0) (sym (c .before .is-lot .ensures) ∙ not-false _ (c .if2 .left)), s .pre .0 .short)
 
 lot-inspections-requires : tie.Need-lot-inspections-requires Inv-loop μ-loop
 lot-inspections-requires c κs =
-    let s = c .before .before .before .before .before .before .before .before .before .before .before in
-    (s .pre .0, s .pre .1, c .before .before .before .before .before .before .before .before .sample-size .ensures)
+    let s = c .before .before .before .before .before .before .before .before .before .before .before .before in
+    (s .pre .0, s .pre .1, c .before .before .before .before .before .before .before .before .before .sample-size .ensures)
 
 returns-3 : tie.Need-returns-3 Inv-loop μ-loop
 returns-3 c =
     let l = c .before .before .before .before .before .before .before .before .loop in
-    let a = c .before .before .before .before .before .before .before .before .before .before .before .before .before .before .args in
+    let a = c .before .before .before .before .before .before .before .before .before .before .before .before .before .before .before .args in
     let r = c .before .before .before .record-at in
     let d = c .before .before .before .before in
     sym (l .inv .2 ∙ next-lot (a .first) (a .sheet .now) (stages (a .plan .now)) (a .sought) (l .f) (l .left) (l .above) (l .at) (d .before .before .before .loop-test .taken) (d .before .before .if1 .left)
@@ -72,7 +72,7 @@ returns-3 c =
 -- the units of the lot
 lot-units : (c : tie.After-known-told Inv-loop μ-loop) → units (c .before .c .given .0 .0) ≤ 1000
 lot-units c =
-    let s = c .before .before .before .before .before .before .before .before .before .before .before .before .before .before .before in
+    let s = c .before .before .before .before .before .before .before .before .before .before .before .before .before .before .before .before in
     let l = c .before .before .before .before .before .before .before .before .before .loop in
     let r = c .before .before .before .before .record-at .result in
     omega (
@@ -83,13 +83,13 @@ lot-units c =
 
 with-lot-found-requires : tie.Need-with-lot-found-requires Inv-loop μ-loop
 with-lot-found-requires c κs =
-    let s = c .before .before .before .before .before .before .before .before .before .before .before .before .before .before .before in
+    let s = c .before .before .before .before .before .before .before .before .before .before .before .before .before .before .before .before in
     omega (arith, lot-units c, s .pre .0 .short)
 
 loop-again : tie.Need-loop-again Inv-loop μ-loop
 loop-again c =
     let l = c .before .before .before .before .before .before .before .before .before .before .loop in
-    let a = c .before .before .before .before .before .before .before .before .before .before .before .before .before .before .before .before .args in
+    let a = c .before .before .before .before .before .before .before .before .before .before .before .before .before .before .before .before .before .args in
     let r = c .before .before .before .before .before .record-at in
     let d = c .before .before .before .before .before .before in
     let w = c .before .before .c .given in
@@ -101,13 +101,13 @@ loop-again c =
 returns-4 : tie.Need-returns-4 Inv-loop μ-loop
 returns-4 c =
     let l = c .before .before .loop in
-    let a = c .before .before .before .before .before .before .before .before .args in
+    let a = c .before .before .before .before .before .before .before .before .before .args in
     sym (l .inv .2 ∙ no-lot (a .first) (a .sheet .now) (stages (a .plan .now)) (a .sought) (l .f) (l .left) (l .above) (l .at) (c .if3 .taken))
 
 returns-5 : tie.Need-returns-5 Inv-loop μ-loop
 returns-5 c =
     let l = c .before .before .loop in
-    let a = c .before .before .before .before .before .before .before .before .args in
+    let a = c .before .before .before .before .before .before .before .before .before .args in
     sym (l .inv .2 ∙ none-left (a .first) (a .sheet .now) (stages (a .plan .now)) (a .sought) (l .f) (l .left) (l .above) (l .at) (omega (arith, c .before .loop-test .left)) (c .if3 .left))
 
 pub lots-spec : {M : Type 1} → statement M
@@ -117,6 +117,7 @@ lots-spec =
     Inv-loop
     μ-loop
     sample-size-requires
+    (λ c κs. search needs)
     (λ c κs. search needs)
     (λ c. search needs)
     loop-holds
