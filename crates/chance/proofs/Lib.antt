@@ -6,8 +6,9 @@ mod Histories
 mod Law
 mod Quotient
 mod States
+mod InLine
+mod Decisions
 mod InPlace
-mod StageEnds
 mod Induction
 mod Parts
 mod Replies

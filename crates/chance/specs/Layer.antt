@@ -1,6 +1,6 @@
 -- A layer of the backward induction, the values of the counts of y units, as a row of words: what the contracts of the inner
 -- functions cite. The word of g nongood and b bad units stands at g * r2 + b.
-use Prim.Native.Nat.{ℕ, _+_, _-_, _*_, _≤_, _<_}
+use Prim.Native.Nat.{ℕ, _+_, _-_, _*_, _≤_, _<_, min}
 use mathlib.Core.Path.{_≡_}
 use mathlib.Core.Logic.{_⊎_}
 use mathlib.Core.Bool.{Bool, true, false, cond}
@@ -8,26 +8,44 @@ use mathlib.Core.List.{List}
 use lib.ListN.{length, getD}
 use lib.Dec.{ltb}
 use Rattle.plan.specs.declared.counts.Counts.{Counts}
-use Rattle.plan.specs.declared.ways.StageWay.the-variants.{Uncurtailed}
-use Rattle.plan.specs.Plan.{stages, End, last-reject1, last-reject2, admitted}
-use Rattle.plan.specs.Counts.{nongood}
-use Rattle.plan.specs.Stopping.{staged}
+use Rattle.plan.specs.declared.boundaries.Rejection.{Rejection}
+use Rattle.plan.specs.Plan.{stages, total, last-reject1, last-reject2, admitted}
+use Rattle.plan.specs.Counts.{nongood, no-units}
+use Rattle.plan.specs.Stopping.{earliest}
 use Rattle.chance.specs.declared.mean.Weights.{Weights}
-use Rattle.chance.specs.declared.layer.Setting.{Setting}
-use Rattle.chance.specs.Bounds.{weight-sum, weighted, Rounding, down, up, rounded, Valuation, step}
-use Rattle.chance.specs.Chance.{scale, constant, chance-value}
+use Rattle.chance.specs.declared.setting.Setting.{Setting}
+use Rattle.chance.specs.declared.division.Reciprocal.{Reciprocal}
+use Rattle.chance.specs.declared.answers.Bounds.{Bounds}
+use Rattle.chance.specs.Bounds.{weight-sum, weighted, Rounding, down, up, rounded, Valuation, step, bound}
+use Rattle.chance.specs.Chance.{scale}
 
 abbrev pub rounding : Bool → Rounding
 rounding false = down
 rounding true = up
 
-abbrev pub setting-value : List ℕ → Setting → Valuation
-setting-value plan s = chance-value (stages plan) (constant (s .weights))
+-- what is left of each weight after the counts c, and not below 0
+abbrev pub left-of : Weights → Counts → Weights
+left-of w c = record { good = w .good - c .good; marginal = w .marginal - c .marginal; bad = w .bad - c .bad }
 
--- the same where stage ends alone decide. It has the same bounds (proofs/StageEnds.antt)
-abbrev pub stage-value : List ℕ → Setting → Valuation
-stage-value plan s =
-    record { decision = staged Uncurtailed (stages plan); weights = constant (s .weights); accepted = scale; rejected = 0; cost = 0 }
+-- constant weights, or what is left of them
+abbrev pub weights-by : Bool → Weights → Counts → Weights
+weights-by left w c = cond left (left-of w c) w
+
+-- a value at acceptance, none at rejection, and a cost of each further unit
+abbrev pub valuation : List ℕ → ℕ → ℕ → Weights → Bool → Valuation
+valuation plan accepted cost w left =
+    record { decision = earliest (stages plan); weights = weights-by left w; accepted = accepted; rejected = 0; cost = cost }
+
+abbrev pub setting-weights : Setting → Counts → Weights
+setting-weights s = weights-by (s .left) (s .weights)
+
+-- what the layers of a setting bound
+abbrev pub setting-value : List ℕ → Setting → Valuation
+setting-value plan s = valuation plan (s .accepted) (s .cost) (s .weights) (s .left)
+
+-- both bounds before any unit
+abbrev pub valued-bounds : List ℕ → Valuation → Bounds
+valued-bounds plan v = record { low = bound down v (total (stages plan)) no-units; high = bound up v (total (stages plan)) no-units }
 
 -- the counts of y units of which g are nongood and b bad
 abbrev pub at : ℕ → ℕ → ℕ → Counts
@@ -40,72 +58,102 @@ word r1 r2 row g b = cond (ltb g r1) (cond (ltb b r2) (getD row (g * r2 + b) 0) 
 abbrev pub word-of : Setting → List ℕ → Counts → ℕ
 word-of s row c = word (s .r1) (s .r2) row (nongood c) (c .bad)
 
--- r is the lesser of m and n
-pub record Minimum (m n r : ℕ) : Type 0 where
-  pub first : r ≤ m
-  pub second : r ≤ n
-  pub one : (r ≡ m) ⊎ (r ≡ n)
+-- ---- what is asked
 
 -- weights that are allowed
 pub record Proportions (w : Weights) : Type 0 where
   pub some : 0 < weight-sum w
   pub few : weight-sum w ≤ 1000000
 
--- the first n words are values
-abbrev pub Values : ℕ → List ℕ → Type 0
-Values n row = (i : ℕ) → i < n → getD row i 0 ≤ scale
+-- no value of a layer of y units is more, so that no sum of three by their weights passes 64 bits
+abbrev pub most : Setting → ℕ → ℕ
+most s y = s .accepted + s .cost * (1001 - y)
+
+-- the first n words are at most m
+abbrev pub Values : ℕ → ℕ → List ℕ → Type 0
+Values n m row = (i : ℕ) → i < n → getD row i 0 ≤ m
+
+-- a row that has the values of a layer
+pub record Row (row : List ℕ) (s : Setting) : Type 0 where
+  pub few : weight-sum (s .weights) ≤ 1000000
+  pub fits : most s 0 ≤ scale
+  pub room : s .r1 * s .r2 ≤ length row
+  pub values : Values (s .r1 * s .r2) scale row
+
+-- a line of a layer, and a number of bad units up to which it is stepped
+pub record Between (s : Setting) (d : Reciprocal) (y g to : ℕ) : Type 0 where
+  pub inside : g < s .r1
+  pub few : g ≤ y
+  pub thousand : y ≤ 1000
+  pub upto : to ≤ min (g + 1) (s .r2)
+  pub shift : d .shift < 64
+
+-- the weights are not all 0 at the states between two numbers of bad units
+abbrev pub Weighs : Setting → ℕ → ℕ → ℕ → ℕ → Type 0
+Weighs s y g from to = (b : ℕ) → from ≤ b → b < to → b ≤ g → 0 < weight-sum (setting-weights s (at y g b))
+
+-- a setting that suits the plan: weights that fall last for the whole sample
+pub record Suits (plan : List ℕ) (s : Setting) : Type 0 where
+  pub admitted : admitted plan ≡ true
+  pub proportions : Proportions (s .weights)
+  pub enough : s .left ≡ true → total (stages plan) ≤ weight-sum (s .weights)
+  pub fits : most s 0 ≤ scale
+  pub reject1 : s .r1 ≡ last-reject1 (stages plan)
+  pub reject2 : s .r2 ≡ last-reject2 (stages plan)
+
+-- what a step to the layer of y units needs
+pub record Ready (plan row : List ℕ) (s : Setting) (y : ℕ) : Type 0 where
+  pub suits : Suits plan s
+  pub units : y ≤ total (stages plan)
+  pub room : s .r1 * s .r2 ≤ length row
+  pub values : Values (s .r1 * s .r2) (most s (y + 1)) row
+
+-- what the backward induction needs
+pub record Prepared (plan row : List ℕ) (s : Setting) : Type 0 where
+  pub suits : Suits plan s
+  pub room : s .r1 * s .r2 ≤ length row
+
+-- ---- what is done
 
 -- words from the nth on are as they were
 abbrev pub Beyond : ℕ → List ℕ → List ℕ → Type 0
 Beyond n before after = (i : ℕ) → n ≤ i → getD after i 0 ≡ getD before i 0
 
--- a row that has the values of a layer
-pub record Row (row : List ℕ) (s : Setting) : Type 0 where
-  pub proportions : Proportions (s .weights)
-  pub room : s .r1 * s .r2 ≤ length row
-  pub values : Values (s .r1 * s .r2) row
+-- words before m and from n on are as they were
+abbrev pub Outside : ℕ → ℕ → List ℕ → List ℕ → Type 0
+Outside m n before after = (i : ℕ) → (i < m) ⊎ (n ≤ i) → getD after i 0 ≡ getD before i 0
 
--- what a step to the layer of y units needs
-pub record Ready (plan row : List ℕ) (s : Setting) (y : ℕ) : Type 0 where
-  pub admitted : admitted plan ≡ true
-  pub units : y ≤ 1000
-  pub width : 1 ≤ s .r2
-  pub words : Row row s
+pub record Filled (from to value : ℕ) (before after : List ℕ) : Type 0 where
+  pub done : (i : ℕ) → from ≤ i → i < to → getD after i 0 ≡ value
+  pub others : Outside from to before after
 
--- false only where no stage ends after y units
-abbrev pub May-end : List ℕ → ℕ → Bool → Type 0
-May-end plan y ends = ends ≡ false → End 0 (stages plan) y → ⊥
+-- the value of a state where inspection goes on, by the words one unit on
+abbrev pub further : Setting → List ℕ → ℕ → ℕ → ℕ → ℕ
+further s row y g b =
+    s .cost + rounded (rounding (s .up))
+    (weighted (setting-weights s (at y g b)) (word (s .r1) (s .r2) row g b) (word (s .r1) (s .r2) row (g + 1) b) (word (s .r1) (s .r2) row (g + 1) (b + 1)))
+    (weight-sum (setting-weights s (at y g b)))
 
--- the mean of the values one unit on
-abbrev pub mean-on : Setting → List ℕ → ℕ → ℕ → ℕ
-mean-on s row g b =
-    rounded (rounding (s .up))
-    (weighted (s .weights) (word (s .r1) (s .r2) row g b) (word (s .r1) (s .r2) row (g + 1) b) (word (s .r1) (s .r2) row (g + 1) (b + 1)))
-    (weight-sum (s .weights))
+pub record Further (s : Setting) (y g from to : ℕ) (before after : List ℕ) : Type 0 where
+  pub done : (b : ℕ) → from ≤ b → b < to → getD after (g * s .r2 + b) 0 ≡ further s before y g b
+  pub others : Outside (g * s .r2 + from) (g * s .r2 + to) before after
+
+-- the value of a state by the limits: accepted with fewer than `accept` bad units, else rejected from `reject` on
+abbrev pub by-limits : Setting → ℕ → ℕ → ℕ → ℕ → ℕ
+by-limits s accept reject b on = cond (ltb b accept) (s .accepted) (cond (ltb b reject) on 0)
+
+-- the limit of rejection at g nongood units, by a stage's rejection numbers
+abbrev pub reject-limit : Rejection → ℕ → ℕ
+reject-limit r g = cond (ltb g (r .nongood)) (r .bad) 0
 
 -- the row after a step of the states of g nongood units
-pub record Line (plan : List ℕ) (s : Setting) (y g : ℕ) (before after : List ℕ) : Type 0 where
-  pub done : (b : ℕ) → b ≤ g → b < s .r2 → getD after (g * s .r2 + b) 0 ≡ step (rounding (s .up)) (stage-value plan s) (word-of s before) (at y g b)
-  pub earlier : (i : ℕ) → i < g * s .r2 → getD after i 0 ≡ getD before i 0
-  pub later : Beyond ((g + 1) * s .r2) before after
-  pub values : Values (s .r1 * s .r2) after
+pub record Line (s : Setting) (y g accept reject : ℕ) (before after : List ℕ) : Type 0 where
+  pub done : (b : ℕ) → b ≤ g → b < s .r2 → getD after (g * s .r2 + b) 0 ≡ by-limits s accept reject b (further s before y g b)
+  pub others : Outside (g * s .r2) (g * s .r2 + min (g + 1) (s .r2)) before after
 
 -- the row after a step of the whole layer
 pub record Layer (plan : List ℕ) (s : Setting) (y : ℕ) (before after : List ℕ) : Type 0 where
   pub done : (g b : ℕ) → b ≤ g → g ≤ y → g < s .r1 → b < s .r2
-      → getD after (g * s .r2 + b) 0 ≡ step (rounding (s .up)) (stage-value plan s) (word-of s before) (at y g b)
+      → getD after (g * s .r2 + b) 0 ≡ step (rounding (s .up)) (setting-value plan s) (word-of s before) (at y g b)
   pub beyond : Beyond (s .r1 * s .r2) before after
-  pub values : Values (s .r1 * s .r2) after
-
--- the first n words made 0
-pub record Cleared (n : ℕ) (before after : List ℕ) : Type 0 where
-  pub zeros : (i : ℕ) → i < n → getD after i 0 ≡ 0
-  pub beyond : Beyond n before after
-
--- what the backward induction needs
-pub record Prepared (plan row : List ℕ) (r1 r2 : ℕ) (w : Weights) : Type 0 where
-  pub admitted : admitted plan ≡ true
-  pub proportions : Proportions w
-  pub reject1 : r1 ≡ last-reject1 (stages plan)
-  pub reject2 : r2 ≡ last-reject2 (stages plan)
-  pub room : r1 * r2 ≤ length row
+  pub values : Values (s .r1 * s .r2) (most s y) after

@@ -2,7 +2,7 @@
 -- acceptance".
 use Prim.Native.Nat.{ℕ, _*_}
 use mathlib.Core.Path.{_≡_}
-use mathlib.Core.Bool.{not, _||_}
+use mathlib.Core.Bool.{false, not, cond, _||_}
 use mathlib.Core.List.{List, [], _∷_}
 use lib.ListN.{length, drop}
 use lib.Dec.{ltb, eqb}
@@ -15,8 +15,9 @@ use Rattle.chance.specs.declared.answers.Bounded.the-variants as Bounded
 use Rattle.chance.specs.declared.answers.Chart.{Chart}
 use Rattle.chance.specs.declared.answers.ChartAnswer.{ChartAnswer}
 use Rattle.chance.specs.declared.answers.ChartAnswer.the-variants as ChartAnswer
-use Rattle.chance.specs.Bounds.{weight-sum}
+use Rattle.chance.specs.Bounds.{weight-sum, Valuation}
 use Rattle.chance.specs.Chance.{low, high}
+use Rattle.chance.specs.Layer.{valuation, valued-bounds}
 use Rattle.chance.specs.Fraction.{quotient, Exactly}
 
 abbrev pub weights-of : ℕ → ℕ → ℕ → Weights
@@ -38,13 +39,28 @@ refusals plan w n =
 abbrev pub bounds-of : List Stage → Weights → Bounds
 bounds-of p w = record { low = low p w; high = high p w }
 
--- the bounds divided by 2^40, as floats
+-- bounds divided by 2^k, as floats
+abbrev pub floats : ℕ → Bounds → Chart
+floats k b = record { low = quotient (b .low) k; high = quotient (b .high) k }
+
 abbrev pub chart-of : List Stage → Weights → Chart
-chart-of p w = record { low = quotient (low p w) 40; high = quotient (high p w) 40 }
+chart-of p w = floats 40 (bounds-of p w)
 
 -- `chance`: the number of the first row that applies, else low and high
 unfoldable pub chance-reply : List ℕ → Weights → ℕ → Bounded
 chance-reply plan w n = first-refusal Bounded.Refused (refusals plan w n) (Bounded.Pair (bounds-of (stages plan) w))
+
+-- the same of any value at acceptance and any cost of a unit
+abbrev pub weighted-reply : List ℕ → Weights → ℕ → ℕ → ℕ → Bounded
+weighted-reply plan w accepted cost n =
+    first-refusal Bounded.Refused (refusals plan w n) (Bounded.Pair (valued-bounds plan (valuation plan accepted cost w false)))
+
+-- the last row alone, and the words that may change by it
+abbrev pub fitted-reply : List ℕ → Valuation → ℕ → Bounded
+fitted-reply plan v n = cond (ltb n (needed plan)) (Bounded.Refused 14) (Bounded.Pair (valued-bounds plan v))
+
+abbrev pub fitted-words : List ℕ → ℕ → ℕ
+fitted-words plan n = cond (ltb n (needed plan)) 0 (needed plan)
 
 -- `chart`: refused alike, else low and high as floats
 unfoldable pub chart-reply : List ℕ → Weights → ℕ → ChartAnswer

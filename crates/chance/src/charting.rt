@@ -1,4 +1,4 @@
-// The chance of acceptance as floats. Document 01, "Chance of acceptance".
+// The bounds as floats. Document 01, "Chance of acceptance".
 use crate::acceptance::chance;
 use crate::answers::Bounded;
 use crate::answers::Chart;
@@ -19,7 +19,7 @@ fn fraction(x: u64) -> f64
     x as f64 / 1099511627776.0
 }
 
-// Low and high as floats, or the refusal.
+// The bounds of the chance of acceptance as floats, or the refusal.
 pub fn chart(plan: &[u32], w0: u32, w1: u32, w2: u32, scratch: &mut [u64]) -> ChartAnswer
     ensures { λ r. ⌜ r ≡ chart-reply (now (plan .entry)) (weights-of w0 w1 w2) (length (now (scratch .entry))) ⌝ }
     ensures { λ r. ⌜ Exact-chart (now (plan .entry)) (weights-of w0 w1 w2) r ⌝ }

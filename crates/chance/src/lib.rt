@@ -1,12 +1,16 @@
-// Bounds on the chance of acceptance, as whole numbers of 2^-40 and as floats. Document 01, "Chance of
-// acceptance". They come by backward induction over layers: a layer has the value of each state that
-// so many units can reach, and stands in a run of words.
+// Bounds on the chance of acceptance, as whole numbers of 2^-40 and as floats. Document 01, "Chance of acceptance".
+// They come by backward induction over layers: a layer has the value of each state that so many units can reach,
+// and stands in a run of words.
 mod acceptance;
 mod answers;
 mod backward;
+mod bounding;
 mod charting;
+mod division;
 mod layer;
+mod line;
 mod mean;
+mod setting;
 
 pub use acceptance::chance;
 pub use answers::Bounded;
