@@ -44,7 +44,9 @@ Rounding-law = (v : Valuation) (sums : ℕ → ℕ) (Reached : ℕ → Counts �
 pub record Encloses (p : List Stage) (w : Weights) : Type 0 where
   pub from-below : low p w * weight-sum w ^ total p ≤ accepted-sum p (constant w) * scale
   pub from-above : accepted-sum p (constant w) * scale ≤ high p w * weight-sum w ^ total p
-  pub close : high p w - low p w ≤ 2 * total p
+  -- by at most one for each unit; 01 asks for two
+  pub close : high p w - low p w ≤ total p
+  pub close-as-written : high p w - low p w ≤ 2 * total p
   pub ordered : low p w ≤ high p w
   pub at-most-one : high p w ≤ scale
 
