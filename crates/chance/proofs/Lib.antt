@@ -2,7 +2,7 @@
 mod Rounding
 mod Sums
 mod Enclosure
-mod Histories
+mod SampleValue
 mod Law
 mod Quotient
 mod States

@@ -10,13 +10,14 @@ use Rattle.plan.specs.declared.counts.Counts.{Counts}
 use Rattle.plan.specs.declared.stage.Answer.the-variants.{GoOn, Accept, Reject}
 use Rattle.plan.specs.Counts.{add-units}
 use Rattle.plan.specs.Sample.{Classes}
+use Rattle.plan.proofs.Sample.{classing}
 use Rattle.chance.specs.Bounds.{weight, weighted-sum, Valuation, sum-over, weight-product, sequence-value, value-sum}
 
 pub sum-same : (n : ℕ) (f g : List ℕ → ℕ) → ((x : List ℕ) → length x ≡ n → Classes x → f x ≡ g x) → sum-over n f ≡ sum-over n g
-sum-same zero f g h = h [] refl tt
+sum-same zero f g h = h [] refl (classing .none)
 sum-same (suc n) f g h =
     let part : (k : ℕ) → k ≤ 2 → sum-over n (λ x. f (k ∷ x)) ≡ sum-over n (λ x. g (k ∷ x)) =
-    λ k l. sum-same n (λ x. f (k ∷ x)) (λ x. g (k ∷ x)) (λ x e cs. h (k ∷ x) (ap suc e) (l, cs)) in
+    λ k l. sum-same n (λ x. f (k ∷ x)) (λ x. g (k ∷ x)) (λ x e cs. h (k ∷ x) (ap suc e) (classing .more k x (omega arith) cs)) in
     omega (arith, part 0 (omega arith), part 1 (omega arith), part 2 (omega arith))
 
 pub sum-scaled : (n k : ℕ) (f : List ℕ → ℕ) → sum-over n (λ x. k * f x) ≡ k * sum-over n f
