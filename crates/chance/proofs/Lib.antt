@@ -6,7 +6,7 @@ mod SampleValue
 mod Law
 mod Quotient
 mod States
-mod InLine
+mod InRow
 mod Decisions
 mod InPlace
 mod Induction

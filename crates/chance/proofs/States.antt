@@ -47,33 +47,33 @@ constant-weights s c e = ap (λ (t : Bool). weights-by t (s .weights) c) (sym e)
 pub inside : (r1 r2 g b : ℕ) → g < r1 → b < r2 → g * r2 + b < r1 * r2
 inside r1 r2 g b h l = omega (arith, mul-le-mul-right r2 h, suc-mul g r2)
 
-pub next-line : (r2 g : ℕ) → (g + 1) * r2 ≡ g * r2 + r2
-next-line r2 g = omega (arith, add-mul g 1 r2)
+pub next-row : (r2 g : ℕ) → (g + 1) * r2 ≡ g * r2 + r2
+next-row r2 g = omega (arith, add-mul g 1 r2)
 
-module _ (r1 r2 : ℕ) (row : List ℕ) (g b : ℕ) where
-  pub word-is : g < r1 → b < r2 → word r1 r2 row g b ≡ getD row (g * r2 + b) 0
+module _ (r1 r2 : ℕ) (layer : List ℕ) (g b : ℕ) where
+  pub word-is : g < r1 → b < r2 → word r1 r2 layer g b ≡ getD layer (g * r2 + b) 0
   word-is h l = rw (lt-ltb g r1 h, lt-ltb b r2 l)
 
-  pub word-past-line : r1 ≤ g → word r1 r2 row g b ≡ 0
-  word-past-line h = rw (le-ltb g r1 h)
+  pub word-past-row : r1 ≤ g → word r1 r2 layer g b ≡ 0
+  word-past-row h = rw (le-ltb g r1 h)
 
-  pub word-past : r2 ≤ b → word r1 r2 row g b ≡ 0
+  pub word-past : r2 ≤ b → word r1 r2 layer g b ≡ 0
   word-past h = go (ltb g r1)
     where
-      go : (p : Bool) → cond p (cond (ltb b r2) (getD row (g * r2 + b) 0) 0) 0 ≡ 0
+      go : (p : Bool) → cond p (cond (ltb b r2) (getD layer (g * r2 + b) 0) 0) 0 ≡ 0
       go true = rw (le-ltb b r2 h)
       go false = refl
 
-  pub word-at-most : (m : ℕ) → Values (r1 * r2) m row → word r1 r2 row g b ≤ m
+  pub word-at-most : (m : ℕ) → Values (r1 * r2) m layer → word r1 r2 layer g b ≤ m
   word-at-most m h = go (ltb g r1) (ltb b r2) refl refl
     where
-      go : (p q : Bool) → ltb g r1 ≡ p → ltb b r2 ≡ q → cond p (cond q (getD row (g * r2 + b) 0) 0) 0 ≤ m
+      go : (p q : Bool) → ltb g r1 ≡ p → ltb b r2 ≡ q → cond p (cond q (getD layer (g * r2 + b) 0) 0) 0 ≤ m
       go true true e f = h (g * r2 + b) (inside r1 r2 g b (ltb-true g r1 e) (ltb-true b r2 f))
       go true false e f = omega arith
       go false true e f = omega arith
       go false false e f = omega arith
 
-  pub word-same : (before : List ℕ) → getD row (g * r2 + b) 0 ≡ getD before (g * r2 + b) 0 → word r1 r2 row g b ≡ word r1 r2 before g b
+  pub word-same : (before : List ℕ) → getD layer (g * r2 + b) 0 ≡ getD before (g * r2 + b) 0 → word r1 r2 layer g b ≡ word r1 r2 before g b
   word-same before = ap (λ (k : ℕ). cond (ltb g r1) (cond (ltb b r2) k 0) 0)
 
 -- ---- the value of a state where inspection goes on
@@ -85,14 +85,14 @@ module _ (s : Setting) (before : List ℕ) (y g b : ℕ) where
   further-is w good marginal bad mean e p q r f =
       ap (λ (k : ℕ). s .cost + k) f ∙ (λ i. s .cost + rounded (rounding (s .up)) (weighted (e i) (p i) (q i) (r i)) (weight-sum (e i)))
 
-  -- it looks at its own word and at the next line
-  pub further-same : (row : List ℕ) → getD row (g * s .r2 + b) 0 ≡ getD before (g * s .r2 + b) 0
-      → ((i : ℕ) → (g + 1) * s .r2 ≤ i → getD row i 0 ≡ getD before i 0) → further s row y g b ≡ further s before y g b
-  further-same row own next =
+  -- it looks at its own word and at the next row
+  pub further-same : (layer : List ℕ) → getD layer (g * s .r2 + b) 0 ≡ getD before (g * s .r2 + b) 0
+      → ((i : ℕ) → (g + 1) * s .r2 ≤ i → getD layer i 0 ≡ getD before i 0) → further s layer y g b ≡ further s before y g b
+  further-same layer own next =
       further-is (setting-weights s (at y g b)) _ _ _ _ refl
-      (word-same (s .r1) (s .r2) row g b before own)
-      (word-same (s .r1) (s .r2) row (g + 1) b before (next ((g + 1) * s .r2 + b) (omega arith)))
-      (word-same (s .r1) (s .r2) row (g + 1) (b + 1) before (next ((g + 1) * s .r2 + (b + 1)) (omega arith)))
+      (word-same (s .r1) (s .r2) layer g b before own)
+      (word-same (s .r1) (s .r2) layer (g + 1) b before (next ((g + 1) * s .r2 + b) (omega arith)))
+      (word-same (s .r1) (s .r2) layer (g + 1) (b + 1) before (next ((g + 1) * s .r2 + (b + 1)) (omega arith)))
       refl
 
   pub further-at-most : (m : ℕ) → Values (s .r1 * s .r2) m before → 0 < weight-sum (setting-weights s (at y g b)) → further s before y g b ≤ s .cost + m

@@ -2,21 +2,20 @@
 -- proofs/Promise.antt.
 use Prim.Native.Nat.{ℕ, zero, suc, _+_, _-_, _*_, _^_, _≤_, _<_}
 use mathlib.Core.Path.{_≡_}
-use mathlib.Core.Logic.{_↔_, _⊎_}
+use mathlib.Core.Logic.{_⊎_}
 use mathlib.Core.Bool.{true}
 use mathlib.Core.List.{List}
 use lib.ListN.{length}
 use Rattle.plan.specs.declared.counts.Counts.{Counts}
 use Rattle.plan.specs.Plan.{Stage, stages, total, admitted}
 use Rattle.plan.specs.Counts.{add-units}
-use Rattle.plan.specs.Refusal.{First}
+use Rattle.plan.specs.Refusal.{First, Refused-by}
+use Rattle.plan.specs.Reply.{refused}
 use Rattle.chance.specs.declared.mean.Weights.{Weights}
-use Rattle.chance.specs.declared.answers.Bounded.the-variants as Bounded
-use Rattle.chance.specs.declared.answers.ChartAnswer.the-variants as ChartAnswer
 use Rattle.chance.specs.Bounds.{weight-sum, weight, down, up, Valuation, bound, value-sum}
 use Rattle.chance.specs.Chance.{scale, constant, low, high, accepted-sum}
 use Rattle.chance.specs.Fraction.{quotient, Exactly}
-use Rattle.chance.specs.Reply.{refusals, chance-reply, chart-reply, Keeps}
+use Rattle.chance.specs.Reply.{bounds-reply, chart-reply, refusals, chance-answer, chart-answer, Keeps}
 
 -- ---- rounding and width, for steps with any weights
 
@@ -59,12 +58,13 @@ Chance-law = (plan : List ℕ) (w : Weights) → admitted plan ≡ true → 0 < 
 abbrev pub Fraction-law : Type 0
 Fraction-law = (k x : ℕ) → k ≤ 1074 → x < 2 ^ 53 → Exactly (quotient x k) x k
 
--- ---- demand 1: refused with a number exactly when that is the first row that applies
+-- ---- demand 1: refused with a number exactly when that is the first row that applies, and none that applies stands before it
+-- in the table
 
 abbrev pub Refusal-law : Type 0
-Refusal-law = (plan : List ℕ) (w : Weights) (n number : ℕ) →
-    ((chance-reply plan w n ≡ Bounded.Refused number) ↔ First (refusals plan w n) number) ×
-    ((chart-reply plan w n ≡ ChartAnswer.Refused number) ↔ First (refusals plan w n) number)
+Refusal-law = (plan : List ℕ) (w : Weights) (n : ℕ) →
+    Refused-by refused (refusals plan w n) (bounds-reply (chance-answer plan w n)) ×
+    Refused-by refused (refusals plan w n) (chart-reply (chart-answer plan w n))
 
 -- a refused call leaves every word of the scratch
 abbrev pub Words-law : Type 0

@@ -1,5 +1,5 @@
--- A layer of the backward induction, the values of the counts of y units, as a row of words: what the contracts of the inner
--- functions cite. The word of g nongood and b bad units stands at g * r2 + b.
+-- A layer of the backward induction, the values of the counts of y units, as a run of words: what the contracts of the inner
+-- functions cite. The word of g nongood and b bad units stands at g * r2 + b; the words of one g are a row.
 use Prim.Native.Nat.{ℕ, _+_, _-_, _*_, _≤_, _<_, min}
 use mathlib.Core.Path.{_≡_}
 use mathlib.Core.Logic.{_⊎_}
@@ -53,10 +53,10 @@ at y g b = record { good = y - g; marginal = g - b; bad = b }
 
 -- the word of g nongood and b bad units; 0 where g reaches r1 or b reaches r2
 abbrev pub word : ℕ → ℕ → List ℕ → ℕ → ℕ → ℕ
-word r1 r2 row g b = cond (ltb g r1) (cond (ltb b r2) (getD row (g * r2 + b) 0) 0) 0
+word r1 r2 layer g b = cond (ltb g r1) (cond (ltb b r2) (getD layer (g * r2 + b) 0) 0) 0
 
 abbrev pub word-of : Setting → List ℕ → Counts → ℕ
-word-of s row c = word (s .r1) (s .r2) row (nongood c) (c .bad)
+word-of s layer c = word (s .r1) (s .r2) layer (nongood c) (c .bad)
 
 -- ---- what is asked
 
@@ -71,16 +71,16 @@ most s y = s .accepted + s .cost * (1001 - y)
 
 -- the first n words are at most m
 abbrev pub Values : ℕ → ℕ → List ℕ → Type 0
-Values n m row = (i : ℕ) → i < n → getD row i 0 ≤ m
+Values n m layer = (i : ℕ) → i < n → getD layer i 0 ≤ m
 
--- a row that has the values of a layer
-pub record Row (row : List ℕ) (s : Setting) : Type 0 where
+-- a run of words that has the values of a layer
+pub record Valued (layer : List ℕ) (s : Setting) : Type 0 where
   pub few : weight-sum (s .weights) ≤ 1000000
   pub fits : most s 0 ≤ scale
-  pub room : s .r1 * s .r2 ≤ length row
-  pub values : Values (s .r1 * s .r2) scale row
+  pub room : s .r1 * s .r2 ≤ length layer
+  pub values : Values (s .r1 * s .r2) scale layer
 
--- a line of a layer, and a number of bad units up to which it is stepped
+-- a row of a layer, and a number of bad units up to which it is stepped
 pub record Between (s : Setting) (d : Reciprocal) (y g to : ℕ) : Type 0 where
   pub inside : g < s .r1
   pub few : g ≤ y
@@ -102,16 +102,16 @@ pub record Suits (plan : List ℕ) (s : Setting) : Type 0 where
   pub reject2 : s .r2 ≡ last-reject2 (stages plan)
 
 -- what a step to the layer of y units needs
-pub record Ready (plan row : List ℕ) (s : Setting) (y : ℕ) : Type 0 where
+pub record Ready (plan layer : List ℕ) (s : Setting) (y : ℕ) : Type 0 where
   pub suits : Suits plan s
   pub units : y ≤ total (stages plan)
-  pub room : s .r1 * s .r2 ≤ length row
-  pub values : Values (s .r1 * s .r2) (most s (y + 1)) row
+  pub room : s .r1 * s .r2 ≤ length layer
+  pub values : Values (s .r1 * s .r2) (most s (y + 1)) layer
 
 -- what the backward induction needs
-pub record Prepared (plan row : List ℕ) (s : Setting) : Type 0 where
+pub record Prepared (plan layer : List ℕ) (s : Setting) : Type 0 where
   pub suits : Suits plan s
-  pub room : s .r1 * s .r2 ≤ length row
+  pub room : s .r1 * s .r2 ≤ length layer
 
 -- ---- what is done
 
@@ -129,9 +129,9 @@ pub record Filled (from to value : ℕ) (before after : List ℕ) : Type 0 where
 
 -- the value of a state where inspection goes on, by the words one unit on
 abbrev pub further : Setting → List ℕ → ℕ → ℕ → ℕ → ℕ
-further s row y g b =
+further s layer y g b =
     s .cost + rounded (rounding (s .up))
-    (weighted (setting-weights s (at y g b)) (word (s .r1) (s .r2) row g b) (word (s .r1) (s .r2) row (g + 1) b) (word (s .r1) (s .r2) row (g + 1) (b + 1)))
+    (weighted (setting-weights s (at y g b)) (word (s .r1) (s .r2) layer g b) (word (s .r1) (s .r2) layer (g + 1) b) (word (s .r1) (s .r2) layer (g + 1) (b + 1)))
     (weight-sum (setting-weights s (at y g b)))
 
 pub record Further (s : Setting) (y g from to : ℕ) (before after : List ℕ) : Type 0 where
@@ -146,14 +146,15 @@ by-limits s accept reject b on = cond (ltb b accept) (s .accepted) (cond (ltb b 
 abbrev pub reject-limit : Rejection → ℕ → ℕ
 reject-limit r g = cond (ltb g (r .nongood)) (r .bad) 0
 
--- the row after a step of the states of g nongood units
-pub record Line (s : Setting) (y g accept reject : ℕ) (before after : List ℕ) : Type 0 where
+-- after a step of the row of g nongood units
+pub record Stepped-row (s : Setting) (y g accept reject : ℕ) (before after : List ℕ) : Type 0 where
   pub done : (b : ℕ) → b ≤ g → b < s .r2 → getD after (g * s .r2 + b) 0 ≡ by-limits s accept reject b (further s before y g b)
   pub others : Outside (g * s .r2) (g * s .r2 + min (g + 1) (s .r2)) before after
 
--- the row after a step of the whole layer
-pub record Layer (plan : List ℕ) (s : Setting) (y : ℕ) (before after : List ℕ) : Type 0 where
+-- after a step of the whole layer: words of no state of y units are as they were
+pub record Stepped-layer (plan : List ℕ) (s : Setting) (y : ℕ) (before after : List ℕ) : Type 0 where
   pub done : (g b : ℕ) → b ≤ g → g ≤ y → g < s .r1 → b < s .r2
       → getD after (g * s .r2 + b) 0 ≡ step (rounding (s .up)) (setting-value plan s) (word-of s before) (at y g b)
+  pub others : (g b : ℕ) → b < s .r2 → (g < b) ⊎ (y < g) → getD after (g * s .r2 + b) 0 ≡ getD before (g * s .r2 + b) 0
   pub beyond : Beyond (s .r1 * s .r2) before after
   pub values : Values (s .r1 * s .r2) (most s y) after

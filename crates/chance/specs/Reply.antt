@@ -1,4 +1,4 @@
--- What `chance` and `chart` reply, and what they leave of the scratch (01: the bench). Document 01, "Refused" and "Chance of
+-- What `chance` and `chart` answer, and what they leave of the scratch (01: the bench). Document 01, "Refused" and "Chance of
 -- acceptance".
 use Prim.Native.Nat.{ℕ, _*_}
 use mathlib.Core.Path.{_≡_}
@@ -6,12 +6,14 @@ use mathlib.Core.Bool.{false, not, cond, _||_}
 use mathlib.Core.List.{List, [], _∷_}
 use lib.ListN.{length, drop}
 use lib.Dec.{ltb, eqb}
+use lib.Ieee.{Float}
 use Rattle.plan.specs.Plan.{Stage, stages, last-reject1, last-reject2, admitted}
 use Rattle.plan.specs.Refusal.{Refusal, first-refusal}
+use Rattle.plan.specs.Reply.{Reply, granted, refused}
 use Rattle.chance.specs.declared.mean.Weights.{Weights}
 use Rattle.chance.specs.declared.answers.Bounds.{Bounds}
-use Rattle.chance.specs.declared.answers.Bounded.{Bounded}
-use Rattle.chance.specs.declared.answers.Bounded.the-variants as Bounded
+use Rattle.chance.specs.declared.answers.BoundsAnswer.{BoundsAnswer}
+use Rattle.chance.specs.declared.answers.BoundsAnswer.the-variants as BoundsAnswer
 use Rattle.chance.specs.declared.answers.Chart.{Chart}
 use Rattle.chance.specs.declared.answers.ChartAnswer.{ChartAnswer}
 use Rattle.chance.specs.declared.answers.ChartAnswer.the-variants as ChartAnswer
@@ -22,6 +24,24 @@ use Rattle.chance.specs.Fraction.{quotient, Exactly}
 
 abbrev pub weights-of : ℕ → ℕ → ℕ → Weights
 weights-of w0 w1 w2 = record { good = w0; marginal = w1; bad = w2 }
+
+-- ---- an answer's number and values
+
+-- low and high
+abbrev pub bounds-reply : BoundsAnswer → Reply
+bounds-reply (BoundsAnswer.Pair b) = granted (b .low ∷ b .high ∷ [])
+bounds-reply (BoundsAnswer.Refused n) = refused n
+
+-- the values of a chart are floats, which a reply does not hold
+abbrev pub chart-reply : ChartAnswer → Reply
+chart-reply (ChartAnswer.Pair c) = granted []
+chart-reply (ChartAnswer.Refused n) = refused n
+
+abbrev pub chart-values : ChartAnswer → List Float
+chart-values (ChartAnswer.Pair c) = c .low ∷ c .high ∷ []
+chart-values (ChartAnswer.Refused n) = []
+
+-- ---- refusals
 
 -- the words of scratch that a plan needs: 2 × last r1 × last r2
 abbrev pub needed : List ℕ → ℕ
@@ -36,6 +56,8 @@ refusals plan w n =
     ∷ record { number = 14; when = ltb n (needed plan) }
     ∷ []
 
+-- ---- the answers
+
 abbrev pub bounds-of : List Stage → Weights → Bounds
 bounds-of p w = record { low = low p w; high = high p w }
 
@@ -47,29 +69,31 @@ abbrev pub chart-of : List Stage → Weights → Chart
 chart-of p w = floats 40 (bounds-of p w)
 
 -- `chance`: the number of the first row that applies, else low and high
-unfoldable pub chance-reply : List ℕ → Weights → ℕ → Bounded
-chance-reply plan w n = first-refusal Bounded.Refused (refusals plan w n) (Bounded.Pair (bounds-of (stages plan) w))
+unfoldable pub chance-answer : List ℕ → Weights → ℕ → BoundsAnswer
+chance-answer plan w n = first-refusal BoundsAnswer.Refused (refusals plan w n) (BoundsAnswer.Pair (bounds-of (stages plan) w))
 
 -- the same of any value at acceptance and any cost of a unit
-abbrev pub weighted-reply : List ℕ → Weights → ℕ → ℕ → ℕ → Bounded
-weighted-reply plan w accepted cost n =
-    first-refusal Bounded.Refused (refusals plan w n) (Bounded.Pair (valued-bounds plan (valuation plan accepted cost w false)))
+abbrev pub weighted-answer : List ℕ → Weights → ℕ → ℕ → ℕ → BoundsAnswer
+weighted-answer plan w accepted cost n =
+    first-refusal BoundsAnswer.Refused (refusals plan w n) (BoundsAnswer.Pair (valued-bounds plan (valuation plan accepted cost w false)))
 
 -- the last row alone, and the words that may change by it
-abbrev pub fitted-reply : List ℕ → Valuation → ℕ → Bounded
-fitted-reply plan v n = cond (ltb n (needed plan)) (Bounded.Refused 14) (Bounded.Pair (valued-bounds plan v))
+abbrev pub fitted-answer : List ℕ → Valuation → ℕ → BoundsAnswer
+fitted-answer plan v n = cond (ltb n (needed plan)) (BoundsAnswer.Refused 14) (BoundsAnswer.Pair (valued-bounds plan v))
 
 abbrev pub fitted-words : List ℕ → ℕ → ℕ
 fitted-words plan n = cond (ltb n (needed plan)) 0 (needed plan)
 
 -- `chart`: refused alike, else low and high as floats
-unfoldable pub chart-reply : List ℕ → Weights → ℕ → ChartAnswer
-chart-reply plan w n = first-refusal ChartAnswer.Refused (refusals plan w n) (ChartAnswer.Pair (chart-of (stages plan) w))
+unfoldable pub chart-answer : List ℕ → Weights → ℕ → ChartAnswer
+chart-answer plan w n = first-refusal ChartAnswer.Refused (refusals plan w n) (ChartAnswer.Pair (chart-of (stages plan) w))
 
 -- the floats of a pair are low / 2^40 and high / 2^40 exactly
 abbrev pub Exact-chart : List ℕ → Weights → ChartAnswer → Type 0
 Exact-chart plan w (ChartAnswer.Pair c) = Exactly (c .low) (low (stages plan) w) 40 × Exactly (c .high) (high (stages plan) w) 40
 Exact-chart plan w (ChartAnswer.Refused number) = Unit {0}
+
+-- ---- the scratch
 
 -- how many words of the scratch a call may change: none where it is refused
 unfoldable pub written : List ℕ → Weights → ℕ → ℕ

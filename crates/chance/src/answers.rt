@@ -6,7 +6,7 @@ pub struct Bounds {
     pub high: u64,
 }
 
-pub enum Bounded {
+pub enum BoundsAnswer {
     Pair(Bounds),
     Refused(u32),
 }

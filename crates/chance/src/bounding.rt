@@ -1,25 +1,33 @@
 // Both bounds of a valuation, and the refusals. The scratch is 01's bench.
-use crate::answers::Bounded;
 use crate::answers::Bounds;
+use crate::answers::BoundsAnswer;
 use crate::backward::bound;
 use crate::mean::Weights;
 use crate::setting::Setting;
 ghost use mathlib.Core.Path.{_≡_};
 ghost use mathlib.Core.Bool.{true, false};
-ghost use Prim.Native.Nat.{_+_, _-_, _*_, _≤_};
-ghost use lib.ListN.{length, getD};
-ghost use Rattle.plan.specs.Plan.{stages, total, admitted};
+ghost use Prim.Native.Nat.{_+_, _*_, _≤_};
+ghost use lib.ListN.{length};
+ghost use Rattle.plan.specs.Plan.{stages, total, last-reject1, last-reject2, admitted};
 ghost use Rattle.chance.specs.Bounds.{weight-sum};
 ghost use Rattle.chance.specs.Chance.{scale};
 ghost use Rattle.chance.specs.Layer.{valuation, setting-value, valued-bounds, Proportions, Beyond, Prepared};
-ghost use Rattle.chance.specs.Reply.{weights-of, fitted-words, fitted-reply, weighted-reply, Keeps};
+ghost use Rattle.chance.specs.Reply.{weights-of, fitted-words, fitted-answer, weighted-answer, Keeps};
 
-// The kth word from the end.
-fn from_end(plan: &[u32], k: usize) -> usize
-    requires { ⌜ (1 ≤ k) × (k ≤ length (now plan)) ⌝ }
-    ensures { λ r. ⌜ r ≡ getD (now (plan .entry)) (length (now (plan .entry)) - k) 0 ⌝ }
+// The last r1.
+fn last_reject1(plan: &[u32]) -> usize
+    requires { ⌜ admitted (now plan) ≡ true ⌝ }
+    ensures { λ r. ⌜ r ≡ last-reject1 (stages (now (plan .entry))) ⌝ }
 {
-    plan[plan.len() - k] as usize
+    plan[plan.len() - 3] as usize
+}
+
+// The last r2.
+fn last_reject2(plan: &[u32]) -> usize
+    requires { ⌜ admitted (now plan) ≡ true ⌝ }
+    ensures { λ r. ⌜ r ≡ last-reject2 (stages (now (plan .entry))) ⌝ }
+{
+    plan[plan.len() - 1] as usize
 }
 
 // Low and high. The lows stand in the first half of the words that are needed, and the part from
@@ -48,16 +56,16 @@ pub fn fitted(
     cost: u64,
     w: Weights,
     left: bool,
-) -> Bounded
+) -> BoundsAnswer
     requires { ⌜ (admitted (now plan) ≡ true) × Proportions w × (accepted + cost * 1001 ≤ scale) ⌝ }
     requires { ⌜ (left ≡ true → total (stages (now plan)) ≤ weight-sum w) ⌝ }
-    ensures { λ r. ⌜ r ≡ fitted-reply (now (plan .entry)) (valuation (now (plan .entry)) accepted cost w left) (length (now (scratch .entry))) ⌝ }
+    ensures { λ r. ⌜ r ≡ fitted-answer (now (plan .entry)) (valuation (now (plan .entry)) accepted cost w left) (length (now (scratch .entry))) ⌝ }
     ensures { λ _. ⌜ Beyond (fitted-words (now (plan .entry)) (length (now (scratch .entry)))) (now (scratch .entry)) (now (scratch .exit)) ⌝ }
 {
-    let r1 = from_end(plan, 3);
-    let r2 = from_end(plan, 1);
+    let r1 = last_reject1(plan);
+    let r2 = last_reject2(plan);
     if scratch.len() < 2 * (r1 * r2) {
-        return Bounded::Refused(14);
+        return BoundsAnswer::Refused(14);
     }
     let s = Setting {
         r1,
@@ -68,7 +76,7 @@ pub fn fitted(
         left,
         up: false,
     };
-    Bounded::Pair(bounds(plan, scratch, s))
+    BoundsAnswer::Pair(bounds(plan, scratch, s))
 }
 
 // The same with constant weights, or the refusal.
@@ -80,13 +88,13 @@ pub fn weighted(
     accepted: u64,
     cost: u64,
     scratch: &mut [u64],
-) -> Bounded
+) -> BoundsAnswer
     requires { ⌜ accepted + cost * 1001 ≤ scale ⌝ }
-    ensures { λ r. ⌜ r ≡ weighted-reply (now (plan .entry)) (weights-of w0 w1 w2) accepted cost (length (now (scratch .entry))) ⌝ }
+    ensures { λ r. ⌜ r ≡ weighted-answer (now (plan .entry)) (weights-of w0 w1 w2) accepted cost (length (now (scratch .entry))) ⌝ }
     ensures { λ _. ⌜ Keeps (now (plan .entry)) (weights-of w0 w1 w2) (now (scratch .entry)) (now (scratch .exit)) ⌝ }
 {
     if !plan::admitted(plan) {
-        return Bounded::Refused(2);
+        return BoundsAnswer::Refused(2);
     }
     let w = Weights {
         good: w0 as u64,
@@ -95,10 +103,10 @@ pub fn weighted(
     };
     let sum = w.good + w.marginal + w.bad;
     if sum == 0 {
-        return Bounded::Refused(13);
+        return BoundsAnswer::Refused(13);
     }
     if 1000000 < sum {
-        return Bounded::Refused(13);
+        return BoundsAnswer::Refused(13);
     }
     fitted(plan, scratch, accepted, cost, w, false)
 }

@@ -1,6 +1,6 @@
 // The bounds as floats. Document 01, "Chance of acceptance".
 use crate::acceptance::chance;
-use crate::answers::Bounded;
+use crate::answers::BoundsAnswer;
 use crate::answers::Chart;
 use crate::answers::ChartAnswer;
 ghost use mathlib.Core.Path.{_≡_};
@@ -8,7 +8,7 @@ ghost use Prim.Native.Nat.{_≤_};
 ghost use lib.ListN.{length};
 ghost use Rattle.chance.specs.Chance.{scale};
 ghost use Rattle.chance.specs.Fraction.{quotient, Exactly};
-ghost use Rattle.chance.specs.Reply.{weights-of, chart-reply, Exact-chart, Keeps};
+ghost use Rattle.chance.specs.Reply.{weights-of, chart-answer, Exact-chart, Keeps};
 
 // x / 2^40, exactly.
 fn fraction(x: u64) -> f64
@@ -21,16 +21,16 @@ fn fraction(x: u64) -> f64
 
 // The bounds of the chance of acceptance as floats, or the refusal.
 pub fn chart(plan: &[u32], w0: u32, w1: u32, w2: u32, scratch: &mut [u64]) -> ChartAnswer
-    ensures { λ r. ⌜ r ≡ chart-reply (now (plan .entry)) (weights-of w0 w1 w2) (length (now (scratch .entry))) ⌝ }
+    ensures { λ r. ⌜ r ≡ chart-answer (now (plan .entry)) (weights-of w0 w1 w2) (length (now (scratch .entry))) ⌝ }
     ensures { λ r. ⌜ Exact-chart (now (plan .entry)) (weights-of w0 w1 w2) r ⌝ }
     ensures { λ _. ⌜ Keeps (now (plan .entry)) (weights-of w0 w1 w2) (now (scratch .entry)) (now (scratch .exit)) ⌝ }
 {
     match chance(plan, w0, w1, w2, scratch) {
-        Bounded::Pair(bounds) => {
+        BoundsAnswer::Pair(bounds) => {
             let low = fraction(bounds.low);
             let high = fraction(bounds.high);
             ChartAnswer::Pair(Chart { low, high })
         }
-        Bounded::Refused(n) => ChartAnswer::Refused(n),
+        BoundsAnswer::Refused(n) => ChartAnswer::Refused(n),
     }
 }

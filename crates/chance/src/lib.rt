@@ -8,13 +8,13 @@ mod bounding;
 mod charting;
 mod division;
 mod layer;
-mod line;
 mod mean;
+mod row;
 mod setting;
 
 pub use acceptance::chance;
-pub use answers::Bounded;
 pub use answers::Bounds;
+pub use answers::BoundsAnswer;
 pub use answers::Chart;
 pub use answers::ChartAnswer;
 pub use charting::chart;

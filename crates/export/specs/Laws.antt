@@ -12,7 +12,7 @@ use Rattle.judge.specs.Judge.{judged}
 use Rattle.chance.specs.declared.mean.Weights.{Weights}
 use Rattle.chance.specs.declared.answers.ChartAnswer.{ChartAnswer}
 use Rattle.chance.specs.declared.answers.ChartAnswer.the-variants as chart
-use Rattle.chance.specs.Reply.{chance-reply, chart-reply}
+use Rattle.chance.specs.Reply.{chance-answer, chart-answer}
 use Rattle.export.specs.Returned.{number, judge-reply, bounds-reply, chart-number}
 
 abbrev pub Granted : Reply → Type 0
@@ -37,5 +37,5 @@ pub record Zero-law : Type 0 where
   pub tallying : (w : List ℕ) → Zero-exactly (tally-reply (tally w .reply))
   pub estimating : (n : ℕ) (w : List ℕ) → Zero-exactly (estimate-reply (estimate n w .reply))
   pub judging : (p list : List ℕ) → Zero-exactly (judge-reply (judged p list))
-  pub chance : (p : List ℕ) (w : Weights) (n : ℕ) → Zero-exactly (bounds-reply (chance-reply p w n))
-  pub charting : (p : List ℕ) (w : Weights) (n : ℕ) → (chart-number (chart-reply p w n) ≡ 0) ↔ Chart-granted (chart-reply p w n)
+  pub chance : (p : List ℕ) (w : Weights) (n : ℕ) → Zero-exactly (bounds-reply (chance-answer p w n))
+  pub charting : (p : List ℕ) (w : Weights) (n : ℕ) → (chart-number (chart-answer p w n) ≡ 0) ↔ Chart-granted (chart-answer p w n)

@@ -6,8 +6,8 @@ use Rattle.plan.specs.Reply.{Reply, granted, refused}
 use Rattle.judge.specs.declared.list.Judged.{Judged}
 use Rattle.judge.specs.declared.list.Judged.the-variants as judged
 use Rattle.judge.specs.Judge.{numbers}
-use Rattle.chance.specs.declared.answers.Bounded.{Bounded}
-use Rattle.chance.specs.declared.answers.Bounded.the-variants as bounded
+use Rattle.chance.specs.declared.answers.BoundsAnswer.{BoundsAnswer}
+use Rattle.chance.specs.declared.answers.BoundsAnswer.the-variants as bounds
 use Rattle.chance.specs.declared.answers.ChartAnswer.{ChartAnswer}
 use Rattle.chance.specs.declared.answers.ChartAnswer.the-variants as chart
 
@@ -27,9 +27,9 @@ judge-reply (judged.Stops j) = granted (numbers (judged.Stops j))
 judge-reply (judged.Refused n) = refused n
 
 -- low and high
-abbrev pub bounds-reply : Bounded → Reply
-bounds-reply (bounded.Pair b) = granted (b .low ∷ b .high ∷ [])
-bounds-reply (bounded.Refused n) = refused n
+abbrev pub bounds-reply : BoundsAnswer → Reply
+bounds-reply (bounds.Pair b) = granted (b .low ∷ b .high ∷ [])
+bounds-reply (bounds.Refused n) = refused n
 
 -- a chart's values are floats, which a Reply does not hold
 abbrev pub chart-number : ChartAnswer → ℕ

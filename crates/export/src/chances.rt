@@ -1,10 +1,10 @@
 // The chance of acceptance, as whole numbers of 2^-40 and as floats. Document 01, "Chance of acceptance" and
 // "Refused".
-use chance::Bounded;
+use chance::BoundsAnswer;
 use chance::ChartAnswer;
 ghost use mathlib.Core.Path.{_≡_};
 ghost use lib.ListN.{length};
-ghost use Rattle.chance.specs.Reply.{weights-of, chance-reply, chart-reply, Exact-chart, Keeps};
+ghost use Rattle.chance.specs.Reply.{weights-of, chance-answer, chart-answer, Exact-chart, Keeps};
 ghost use Rattle.export.specs.Returned.{number, left, bounds-reply, chart-number, chart-left};
 
 // Out: low, high.
@@ -17,13 +17,13 @@ pub extern "C" fn haq_chance(
     scratch: &mut [u64],
     out: &mut [u64; 2],
 ) -> u32
-    ensures { λ r. ⌜ r ≡ number (bounds-reply (chance-reply (now (plan .entry)) (weights-of w0 w1 w2) (length (now (scratch .entry))))) ⌝ }
-    ensures { λ _. ⌜ now (out .exit) ≡ left (bounds-reply (chance-reply (now (plan .entry)) (weights-of w0 w1 w2) (length (now (scratch .entry))))) (now (out .entry)) ⌝ }
+    ensures { λ r. ⌜ r ≡ number (bounds-reply (chance-answer (now (plan .entry)) (weights-of w0 w1 w2) (length (now (scratch .entry))))) ⌝ }
+    ensures { λ _. ⌜ now (out .exit) ≡ left (bounds-reply (chance-answer (now (plan .entry)) (weights-of w0 w1 w2) (length (now (scratch .entry))))) (now (out .entry)) ⌝ }
     ensures { λ _. ⌜ Keeps (now (plan .entry)) (weights-of w0 w1 w2) (now (scratch .entry)) (now (scratch .exit)) ⌝ }
 {
     match chance::chance(plan, w0, w1, w2, scratch) {
-        Bounded::Refused(n) => n,
-        Bounded::Pair(b) => {
+        BoundsAnswer::Refused(n) => n,
+        BoundsAnswer::Pair(b) => {
             *out = [b.low, b.high];
             0
         }
@@ -40,9 +40,9 @@ pub extern "C" fn haq_chart(
     scratch: &mut [u64],
     out: &mut [f64; 2],
 ) -> u32
-    ensures { λ r. ⌜ r ≡ chart-number (chart-reply (now (plan .entry)) (weights-of w0 w1 w2) (length (now (scratch .entry)))) ⌝ }
-    ensures { λ _. ⌜ now (out .exit) ≡ chart-left (chart-reply (now (plan .entry)) (weights-of w0 w1 w2) (length (now (scratch .entry)))) (now (out .entry)) ⌝ }
-    ensures { λ _. ⌜ Exact-chart (now (plan .entry)) (weights-of w0 w1 w2) (chart-reply (now (plan .entry)) (weights-of w0 w1 w2) (length (now (scratch .entry)))) ⌝ }
+    ensures { λ r. ⌜ r ≡ chart-number (chart-answer (now (plan .entry)) (weights-of w0 w1 w2) (length (now (scratch .entry)))) ⌝ }
+    ensures { λ _. ⌜ now (out .exit) ≡ chart-left (chart-answer (now (plan .entry)) (weights-of w0 w1 w2) (length (now (scratch .entry)))) (now (out .entry)) ⌝ }
+    ensures { λ _. ⌜ Exact-chart (now (plan .entry)) (weights-of w0 w1 w2) (chart-answer (now (plan .entry)) (weights-of w0 w1 w2) (length (now (scratch .entry)))) ⌝ }
     ensures { λ _. ⌜ Keeps (now (plan .entry)) (weights-of w0 w1 w2) (now (scratch .entry)) (now (scratch .exit)) ⌝ }
 {
     match chance::chart(plan, w0, w1, w2, scratch) {

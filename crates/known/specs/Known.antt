@@ -4,9 +4,9 @@ use Prim.Native.Nat.{ℕ}
 use mathlib.Core.Path.{_≡_}
 use mathlib.Core.List.{List, [], _∷_}
 use Rattle.plan.specs.Plan.{stages}
+use Rattle.plan.specs.Reply.{granted}
 use Rattle.judge.specs.Judge.{judged, numbers}
-use Rattle.chance.specs.declared.answers.Bounded.the-variants as bounded
-use Rattle.chance.specs.Reply.{weights-of, chance-reply}
+use Rattle.chance.specs.Reply.{weights-of, bounds-reply, chance-answer}
 use Rattle.sheetmodel.specs.declared.reply.Estimate.{Estimate}
 use Rattle.sheetmodel.specs.Estimate.{estimate-of}
 
@@ -36,5 +36,5 @@ pub record Known-lots : Type 0 where
   pub a-122-estimate : estimate-of (stages plan-a) (1 ∷ 2 ∷ 2 ∷ []) ≡ record { good = 0; marginal = 1; bad = 1; over = 2 }
   pub b-ten-good : numbers (judged plan-b ten-good) ≡ 10 ∷ 1 ∷ 10 ∷ 1 ∷ 10 ∷ 1 ∷ 8 ∷ 1 ∷ 0 ∷ []
   pub b-2-ten-good : numbers (judged plan-b (2 ∷ ten-good)) ≡ 11 ∷ 1 ∷ 11 ∷ 1 ∷ 11 ∷ 1 ∷ 9 ∷ 1 ∷ 0 ∷ []
-  pub one-unit : chance-reply size-one (weights-of 1 1 1) 2 ≡ bounded.Pair (record { low = 366503875925; high = 366503875926 })
-  pub one-unit-half : chance-reply size-one (weights-of 1 0 1) 2 ≡ bounded.Pair (record { low = 549755813888; high = 549755813888 })
+  pub one-unit : bounds-reply (chance-answer size-one (weights-of 1 1 1) 2) ≡ granted (366503875925 ∷ 366503875926 ∷ [])
+  pub one-unit-half : bounds-reply (chance-answer size-one (weights-of 1 0 1) 2) ≡ granted (549755813888 ∷ 549755813888 ∷ [])

@@ -2,7 +2,7 @@
 // in the order of specs/Known.antt.
 mod print;
 
-use chance::Bounded;
+use chance::BoundsAnswer;
 use judge::Judged;
 use sheet::Estimated;
 
@@ -30,8 +30,8 @@ fn estimate(plan: &[u32]) {
 fn bounds(plan: &[u32], w0: u32, w1: u32, w2: u32) {
     let mut scratch = [u64::MAX; 2];
     match chance::chance(plan, w0, w1, w2, &mut scratch) {
-        Bounded::Pair(b) => print::bounds(b),
-        Bounded::Refused(number) => print::refusal(number),
+        BoundsAnswer::Pair(b) => print::bounds(b),
+        BoundsAnswer::Refused(number) => print::refusal(number),
     }
 }
 

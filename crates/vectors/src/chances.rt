@@ -1,6 +1,6 @@
 // Cases on the chance of acceptance: three weights, the number of words of scratch, and the plan.
 use crate::print::Reply;
-use chance::Bounded;
+use chance::BoundsAnswer;
 use chance::ChartAnswer;
 ghost use Prim.Native.Nat.{_≤_};
 ghost use lib.ListN.{length};
@@ -10,8 +10,8 @@ fn bounds(words: &[u32], scratch: &mut [u64]) -> Reply
     requires { ⌜ 4 ≤ length (now words) ⌝ }
 {
     match chance::chance(&words[4..], words[0], words[1], words[2], scratch) {
-        Bounded::Pair(bounds) => Reply::Pair(bounds.low, bounds.high),
-        Bounded::Refused(number) => Reply::No(number as u64),
+        BoundsAnswer::Pair(bounds) => Reply::Pair(bounds.low, bounds.high),
+        BoundsAnswer::Refused(number) => Reply::No(number as u64),
     }
 }
 

@@ -1,0 +1,168 @@
+-- The states of one row, in place: words filled with a value, states where inspection goes on, and the row as a whole.
+-- Assumes nothing.
+use Prim.Native.Nat.{ℕ, _+_, _-_, _*_, _≤_, _<_, min, max}
+use mathlib.Core.Path.{_≡_, refl, sym, ap, subst, _∙_}
+use mathlib.Core.Logic.{_⊎_, inl, inr, ⊎-elim}
+use mathlib.Core.Bool.{Bool, true, false, cond}
+use mathlib.Core.List.{List}
+use lib.ListN.{length, getD, set, length-set}
+use lib.Seq.{getD-set-same, getD-set-other}
+use lib.Dec.{ltb}
+use borrow.Author.Tests.{ltb-true, ltb-false}
+use native.Mathlib.Nat.{eq-or-lt-of-le, mul-le-mul-right, suc-mul}
+use native.Mathlib.Decide.{decLt}
+use native.Mathlib.Omega.{arith}
+use Rattle.chance.specs.declared.setting.Setting.{Setting}
+use Rattle.chance.specs.declared.division.Reciprocal.{Reciprocal}
+use Rattle.chance.specs.Chance.{scale}
+use Rattle.chance.specs.Layer.{word, Values, Valued, Between, Outside, Filled, further, Further, Stepped-row}
+use Rattle.chance.proofs.States.{inside, next-row, word-is, word-at-most, word-same, further-same}
+
+-- a word that was set, and the others
+module _ (layer : List ℕ) (k v : ℕ) (fits : k < length layer) where
+  set-at : (i : ℕ) → i ≡ k → getD (set layer k v) i 0 ≡ v
+  set-at i e = subst (λ (j : ℕ). getD (set layer k v) j 0 ≡ v) (sym e) (getD-set-same layer k v 0 fits)
+
+-- ---- words from `from` on, filled up to the place i
+
+pub record Fill-to (from to value : ℕ) (before layer : List ℕ) (i : ℕ) : Type 0 where
+  pub same : length layer ≡ length before
+  pub at-least : from ≤ i
+  pub at-most : i ≤ max from to
+  pub done : (k : ℕ) → from ≤ k → k < i → getD layer k 0 ≡ value
+  pub others : Outside from i before layer
+
+module _ (from to value : ℕ) (before : List ℕ) where
+  pub fill-none : Fill-to from to value before before from
+  fill-none = record { same = refl; at-least = omega arith; at-most = omega arith; done = λ k h l. absurd (omega arith); others = λ k h. refl }
+
+  pub fill-more : (layer : List ℕ) (i : ℕ) → Fill-to from to value before layer i → i < to → i < length layer → Fill-to from to value before (set layer i value) (i + 1)
+  fill-more layer i p l fits =
+      record {
+        same = length-set layer i value ∙ p .same;
+        at-least = omega (arith, p .at-least);
+        at-most = omega arith;
+        done = λ k h m. ⊎-elim {C = getD (set layer i value) k 0 ≡ value} (set-at layer i value fits k)
+            (λ q. getD-set-other layer i k value 0 (omega arith) ∙ p .done k h q) (eq-or-lt-of-le {n = k} {m = i} (omega arith));
+        others = λ k h. getD-set-other layer i k value 0 (⊎-elim (λ a. omega (arith, p .at-least)) (λ a. omega arith) h)
+            ∙ p .others k (⊎-elim {C = (k < from) ⊎ (i ≤ k)} inl (λ a. inr (omega arith)) h);
+      }
+
+  pub fill-all : (layer : List ℕ) (i : ℕ) → Fill-to from to value before layer i → to ≤ i → Filled from to value before layer
+  fill-all layer i p l =
+      record {
+        done = λ k h m. p .done k h (omega arith);
+        others = λ k h. p .others k (elim (decLt k from) [ yes q ↦ inl q | no q ↦ inr (⊎-elim {C = i ≤ k} (λ a. absurd (omega arith)) (λ a. omega (arith, p .at-most)) h) ]);
+      }
+
+  pub filled-values : (layer : List ℕ) (n m : ℕ) → Filled from to value before layer → value ≤ m → Values n m before → Values n m layer
+  filled-values layer n m p l h i k = go (decLt i from) (decLt i to)
+    where
+      go : Dec (i < from) → Dec (i < to) → getD layer i 0 ≤ m
+      go (yes a) b = rw (p .others i (inl a)) (h i k)
+      go (no a) (yes b) = rw (p .done i (omega arith) b) l
+      go (no a) (no b) = rw (p .others i (inr (omega arith))) (h i k)
+
+-- ---- the states where inspection goes on, down to b bad units
+
+pub record Further-to (s : Setting) (y g from to : ℕ) (before layer : List ℕ) (bad b : ℕ) : Type 0 where
+  pub same : length layer ≡ length before
+  pub at-least : min from to ≤ b
+  pub at-most : b ≤ to
+  pub done : (k : ℕ) → b ≤ k → k < to → getD layer (g * s .r2 + k) 0 ≡ further s before y g k
+  pub others : Outside (g * s .r2 + b) (g * s .r2 + to) before layer
+  pub bad-is : bad ≡ word (s .r1) (s .r2) before (g + 1) b
+
+-- the three words of a state of k bad units
+pub record Reading (s : Setting) (g k : ℕ) (before layer : List ℕ) (carried : ℕ) : Type 0 where
+  pub place : g * s .r2 + k < length layer
+  pub good : getD layer (g * s .r2 + k) 0 ≡ word (s .r1) (s .r2) before g k
+  pub marginal : word (s .r1) (s .r2) layer (g + 1) k ≡ word (s .r1) (s .r2) before (g + 1) k
+  pub bad : carried ≡ word (s .r1) (s .r2) before (g + 1) (k + 1)
+  pub good-most : getD layer (g * s .r2 + k) 0 ≤ scale
+  pub marginal-most : word (s .r1) (s .r2) layer (g + 1) k ≤ scale
+  pub bad-most : carried ≤ scale
+
+module _ (s : Setting) (y g from to : ℕ) (before : List ℕ) where
+  pub further-none : (bad : ℕ) → bad ≡ word (s .r1) (s .r2) before (g + 1) to → Further-to s y g from to before before bad to
+  further-none bad e = record { same = refl; at-least = omega arith; at-most = omega arith; done = λ k h l. absurd (omega arith); others = λ i h. refl; bad-is = e }
+
+  pub further-all : (layer : List ℕ) (bad b : ℕ) → Further-to s y g from to before layer bad b → b ≤ from → Further s y g from to before layer
+  further-all layer bad b p l =
+      record {
+        done = λ k h m. p .done k (omega arith) m;
+        others = λ i h. p .others i
+            (elim (decLt i (g * s .r2 + b)) [ yes q ↦ inl q | no q ↦ inr (⊎-elim {C = g * s .r2 + to ≤ i} (λ a. omega (arith, p .at-least)) (λ a. a) h) ]);
+      }
+
+-- one state more, of k bad units
+pub further-more : {s : Setting} {y g from to bad b : ℕ} {before layer : List ℕ} → Further-to s y g from to before layer bad b → (k value marginal : ℕ) → b ≡ k + 1 → from ≤ k
+    → g * s .r2 + k < length layer → value ≡ further s before y g k → marginal ≡ word (s .r1) (s .r2) before (g + 1) k
+    → Further-to s y g from to before (set layer (g * s .r2 + k) value) marginal k
+further-more {s} {y} {g} {from} {to} {bad} {b} {before} {layer} p k value marginal one l fits e f =
+    let place : ℕ = g * s .r2 + k in
+    record {
+      same = length-set layer place value ∙ p .same;
+      at-least = omega arith;
+      at-most = omega (arith, p .at-most);
+      done = λ j h m. ⊎-elim {C = getD (set layer place value) (g * s .r2 + j) 0 ≡ further s before y g j}
+          (λ q. subst (λ (n : ℕ). getD (set layer place value) (g * s .r2 + n) 0 ≡ further s before y g n) q (getD-set-same layer place value 0 fits ∙ e))
+          (λ q. getD-set-other layer place (g * s .r2 + j) value 0 (omega arith) ∙ p .done j (omega arith) m) (eq-or-lt-of-le {n = k} {m = j} h);
+      others = λ i h. getD-set-other layer place i value 0 (⊎-elim (λ a. omega arith) (λ a. omega (arith, p .at-most)) h)
+          ∙ p .others i (⊎-elim {C = (i < g * s .r2 + b) ⊎ (g * s .r2 + to ≤ i)} (λ a. inl (omega arith)) inr h);
+      bad-is = f;
+    }
+
+-- what is read at the state before b is as it was before the row
+pub reading : {s : Setting} {d : Reciprocal} {y g from to bad b : ℕ} {before layer : List ℕ} → Further-to s y g from to before layer bad b → 0 < b
+    → Valued before s → Between s d y g to → Reading s g (b - 1) before layer bad
+reading {s} {d} {y} {g} {from} {to} {bad} {b} {before} {layer} p some h m =
+    let one : b ≡ b - 1 + 1 = omega arith in
+    let inner = inside (s .r1) (s .r2) g (b - 1) (m .inside) (omega (arith, p .at-most, m .upto)) in
+    let next = next-row (s .r2) g in
+    let own : getD layer (g * s .r2 + (b - 1)) 0 ≡ getD before (g * s .r2 + (b - 1)) 0 = p .others (g * s .r2 + (b - 1)) (inl (omega arith)) in
+    let on = word-same (s .r1) (s .r2) layer (g + 1) (b - 1) before (p .others ((g + 1) * s .r2 + (b - 1)) (inr (omega (arith, m .upto)))) in
+    let most : (g b : ℕ) → word (s .r1) (s .r2) before g b ≤ scale = λ g b. word-at-most (s .r1) (s .r2) before g b scale (h .values) in
+    record {
+      place = omega (arith, p .same, h .room);
+      good = own ∙ sym (word-is (s .r1) (s .r2) before g (b - 1) (m .inside) (omega (arith, p .at-most, m .upto)));
+      marginal = on;
+      bad = p .bad-is ∙ ap (word (s .r1) (s .r2) before (g + 1)) one;
+      good-most = rw own (h .values (g * s .r2 + (b - 1)) inner);
+      marginal-most = rw on (most (g + 1) (b - 1));
+      bad-most = rw (p .bad-is) (most (g + 1) b);
+    }
+
+-- ---- the row: rejected states filled, those between the limits stepped, accepted states filled
+
+-- the whole row stands in the layer
+pub row-room : (layer : List ℕ) (s : Setting) (g : ℕ) → Valued layer s → g < s .r1 → g * s .r2 + s .r2 ≤ length layer
+row-room layer s g h l = omega (arith, h .room, mul-le-mul-right (s .r2) l, suc-mul g (s .r2))
+
+module _ (s : Setting) (y g accept reject from to end : ℕ) (before layer1 layer2 layer3 : List ℕ)
+    (ends : end ≡ min (g + 1) (s .r2)) (from-is : from ≡ min accept end) (to-is : to ≡ min reject end)
+    (rejected : Filled (g * s .r2 + to) (g * s .r2 + end) 0 before layer1)
+    (stepped : Further s y g from to layer1 layer2)
+    (accepted : Filled (g * s .r2) (g * s .r2 + from) (s .accepted) layer2 layer3) where
+  pub row-all : Stepped-row s y g accept reject before layer3
+  row-all = record {
+    done = λ b h l. value b (omega arith) (ltb b accept) (ltb b reject) refl refl;
+    others = λ i h. subst (λ (e : ℕ). (i < g * s .r2) ⊎ (g * s .r2 + e ≤ i) → getD layer3 i 0 ≡ getD before i 0) ends (outside i) h;
+  }
+    where
+      outside : (i : ℕ) → (i < g * s .r2) ⊎ (g * s .r2 + end ≤ i) → getD layer3 i 0 ≡ getD before i 0
+      outside i (inl l) = accepted .others i (inl l) ∙ stepped .others i (inl (omega arith)) ∙ rejected .others i (inl (omega arith))
+      outside i (inr l) = accepted .others i (inr (omega arith)) ∙ stepped .others i (inr (omega arith)) ∙ rejected .others i (inr l)
+
+      value : (b : ℕ) → b < end → (p q : Bool) → ltb b accept ≡ p → ltb b reject ≡ q
+          → getD layer3 (g * s .r2 + b) 0 ≡ cond p (s .accepted) (cond q (further s before y g b) 0)
+      value b l true q e f = accepted .done (g * s .r2 + b) (omega arith) (omega (arith, ltb-true b accept e))
+      value b l false true e f =
+          accepted .others (g * s .r2 + b) (inr (omega (arith, ltb-false b accept e)))
+          ∙ stepped .done b (omega (arith, ltb-false b accept e)) (omega (arith, ltb-true b reject f))
+          ∙ further-same s before y g b layer1 (rejected .others (g * s .r2 + b) (inl (omega (arith, ltb-true b reject f))))
+          (λ i h. rejected .others i (inr (omega (arith, next-row (s .r2) g))))
+      value b l false false e f =
+          accepted .others (g * s .r2 + b) (inr (omega (arith, ltb-false b accept e)))
+          ∙ stepped .others (g * s .r2 + b) (inr (omega (arith, ltb-false b reject f)))
+          ∙ rejected .done (g * s .r2 + b) (omega (arith, ltb-false b reject f)) (omega arith)

@@ -1,0 +1,130 @@
+// The states of g nongood units, in place: from the values at y + 1 units to those at y. The state of g nongood
+// and b bad units stands at g * r2 + b, for g below r1 and b below r2.
+use crate::division::Reciprocal;
+use crate::mean::mean;
+use crate::setting::Setting;
+use crate::setting::weights_at;
+use plan::minimum;
+ghost use mathlib.Core.Path.{_≡_};
+ghost use mathlib.Core.Bool.{false};
+ghost use Prim.Native.Nat.{_+_, _*_, _≤_, _<_};
+ghost use lib.ListN.{length};
+ghost use Rattle.chance.specs.Layer.{word, Valued, Between, Weighs, Filled, Further, Stepped-row};
+
+// The words from `from` on and below `to` become `value`.
+pub fn fill(layer: &mut [u64], from: usize, to: usize, value: u64)
+    requires { ⌜ to ≤ length (now layer) ⌝ }
+    ensures { λ _. ⌜ Filled from to value (now (layer .entry)) (now (layer .exit)) ⌝ }
+{
+    let mut i = from;
+    while i < to {
+        layer[i] = value;
+        i += 1;
+    }
+}
+
+// The value of g nongood and b bad units, which is 0 where a count reaches its last rejection number.
+fn value_at(layer: &[u64], r1: usize, r2: usize, g: usize, b: usize) -> u64
+    requires { ⌜ r1 * r2 ≤ length (now layer) ⌝ }
+    requires { ⌜ b < r2 ⌝ }
+    ensures { λ r. ⌜ r ≡ word r1 r2 (now (layer .entry)) g b ⌝ }
+{
+    if g < r1 { layer[g * r2 + b] } else { 0 }
+}
+
+fn edge_value(layer: &[u64], r1: usize, r2: usize, g: usize, b: usize) -> u64
+    requires { ⌜ r1 * r2 ≤ length (now layer) ⌝ }
+    ensures { λ r. ⌜ r ≡ word r1 r2 (now (layer .entry)) g b ⌝ }
+{
+    if b < r2 {
+        value_at(layer, r1, r2, g, b)
+    } else {
+        0
+    }
+}
+
+// The states between two numbers of bad units, where inspection goes on, with constant weights. From the last to
+// the first: the value after a bad unit is that which the state before had after a marginal one.
+fn go_on(layer: &mut [u64], s: Setting, d: Reciprocal, y: usize, g: usize, from: usize, to: usize)
+    requires { ⌜ Valued (now layer) s ⌝ }
+    requires { ⌜ Between s d y g to ⌝ }
+    requires { ⌜ Weighs s y g from to ⌝ }
+    requires { ⌜ s .left ≡ false ⌝ }
+    ensures { λ _. ⌜ Further s y g from to (now (layer .entry)) (now (layer .exit)) ⌝ }
+{
+    let r1 = s.r1;
+    let r2 = s.r2;
+    let w = s.weights;
+    let start = g * r2;
+    let mut bad = edge_value(layer, r1, r2, g + 1, to);
+    let mut b = to;
+    while from < b {
+        b -= 1;
+        let place = start + b;
+        let good = layer[place];
+        let marginal = value_at(layer, r1, r2, g + 1, b);
+        layer[place] = s.cost + mean(w, d, s.up, good, marginal, bad);
+        bad = marginal;
+    }
+}
+
+// The same with weights that fall. It is a loop of its own because a test in the other one slows that by a third.
+fn draw_on(layer: &mut [u64], s: Setting, d: Reciprocal, y: usize, g: usize, from: usize, to: usize)
+    requires { ⌜ Valued (now layer) s ⌝ }
+    requires { ⌜ Between s d y g to ⌝ }
+    requires { ⌜ Weighs s y g from to ⌝ }
+    ensures { λ _. ⌜ Further s y g from to (now (layer .entry)) (now (layer .exit)) ⌝ }
+{
+    let r1 = s.r1;
+    let r2 = s.r2;
+    let start = g * r2;
+    let mut bad = edge_value(layer, r1, r2, g + 1, to);
+    let mut b = to;
+    while from < b {
+        b -= 1;
+        let place = start + b;
+        let good = layer[place];
+        let marginal = value_at(layer, r1, r2, g + 1, b);
+        let w = weights_at(s, y, g, b);
+        layer[place] = s.cost + mean(w, d, s.up, good, marginal, bad);
+        bad = marginal;
+    }
+}
+
+// Either of them, by the kind of weights.
+fn between(layer: &mut [u64], s: Setting, d: Reciprocal, y: usize, g: usize, from: usize, to: usize)
+    requires { ⌜ Valued (now layer) s ⌝ }
+    requires { ⌜ Between s d y g to ⌝ }
+    requires { ⌜ Weighs s y g from to ⌝ }
+    ensures { λ _. ⌜ Further s y g from to (now (layer .entry)) (now (layer .exit)) ⌝ }
+{
+    if s.left {
+        draw_on(layer, s, d, y, g, from, to);
+        return;
+    }
+    go_on(layer, s, d, y, g, from, to);
+}
+
+// The row: below `accept` bad units states are accepted, from `reject` on they are rejected.
+pub fn step_row(
+    layer: &mut [u64],
+    s: Setting,
+    d: Reciprocal,
+    y: usize,
+    g: usize,
+    accept: usize,
+    reject: usize,
+)
+    requires { ⌜ Valued (now layer) s ⌝ }
+    requires { ⌜ (g < s .r1) × (g ≤ y) × (y ≤ 1000) × (d .shift < 64) ⌝ }
+    requires { ⌜ Weighs s y g accept reject ⌝ }
+    ensures { λ _. ⌜ Stepped-row s y g accept reject (now (layer .entry)) (now (layer .exit)) ⌝ }
+{
+    let end = minimum(g + 1, s.r2);
+    let from = minimum(accept, end);
+    let to = minimum(reject, end);
+    let start = g * s.r2;
+    fill(layer, start + to, start + end, 0);
+    between(layer, s, d, y, g, from, to);
+    fill(layer, start, start + from, s.accepted);
+}
