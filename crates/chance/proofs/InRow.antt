@@ -12,11 +12,12 @@ use borrow.Author.Tests.{ltb-true, ltb-false}
 use native.Mathlib.Nat.{eq-or-lt-of-le, mul-le-mul-right, suc-mul}
 use native.Mathlib.Decide.{decLt}
 use native.Mathlib.Omega.{arith}
+use Rattle.chance.specs.declared.mean.Weights.{Weights}
 use Rattle.chance.specs.declared.setting.Setting.{Setting}
 use Rattle.chance.specs.declared.division.Reciprocal.{Reciprocal}
 use Rattle.chance.specs.Chance.{scale}
-use Rattle.chance.specs.Layer.{word, Values, Valued, Between, Outside, Filled, further, Further, Stepped-row}
-use Rattle.chance.proofs.States.{inside, next-row, word-is, word-at-most, word-same, further-same}
+use Rattle.chance.specs.Layer.{setting-weights, at, word, Proportions, Values, Valued, Between, Weighs, Outside, Filled, further, Further, Stepped-row}
+use Rattle.chance.proofs.States.{weights-few, inside, next-row, word-is, word-at-most, word-same, further-same}
 
 -- a word that was set, and the others
 module _ (layer : List ℕ) (k v : ℕ) (fits : k < length layer) where
@@ -32,12 +33,12 @@ pub record Fill-to (from to value : ℕ) (before layer : List ℕ) (i : ℕ) : T
   pub done : (k : ℕ) → from ≤ k → k < i → getD layer k 0 ≡ value
   pub others : Outside from i before layer
 
-module _ (from to value : ℕ) (before : List ℕ) where
+module _ {from to value : ℕ} {before : List ℕ} where
   pub fill-none : Fill-to from to value before before from
   fill-none = record { same = refl; at-least = omega arith; at-most = omega arith; done = λ k h l. absurd (omega arith); others = λ k h. refl }
 
-  pub fill-more : (layer : List ℕ) (i : ℕ) → Fill-to from to value before layer i → i < to → i < length layer → Fill-to from to value before (set layer i value) (i + 1)
-  fill-more layer i p l fits =
+  pub fill-more : {layer : List ℕ} {i : ℕ} → Fill-to from to value before layer i → i < to → i < length layer → Fill-to from to value before (set layer i value) (i + 1)
+  fill-more {layer} {i} p l fits =
       record {
         same = length-set layer i value ∙ p .same;
         at-least = omega (arith, p .at-least);
@@ -48,15 +49,15 @@ module _ (from to value : ℕ) (before : List ℕ) where
             ∙ p .others k (⊎-elim {C = (k < from) ⊎ (i ≤ k)} inl (λ a. inr (omega arith)) h);
       }
 
-  pub fill-all : (layer : List ℕ) (i : ℕ) → Fill-to from to value before layer i → to ≤ i → Filled from to value before layer
-  fill-all layer i p l =
+  pub fill-all : {layer : List ℕ} {i : ℕ} → Fill-to from to value before layer i → to ≤ i → Filled from to value before layer
+  fill-all {layer} {i} p l =
       record {
         done = λ k h m. p .done k h (omega arith);
         others = λ k h. p .others k (elim (decLt k from) [ yes q ↦ inl q | no q ↦ inr (⊎-elim {C = i ≤ k} (λ a. absurd (omega arith)) (λ a. omega (arith, p .at-most)) h) ]);
       }
 
-  pub filled-values : (layer : List ℕ) (n m : ℕ) → Filled from to value before layer → value ≤ m → Values n m before → Values n m layer
-  filled-values layer n m p l h i k = go (decLt i from) (decLt i to)
+  pub filled-values : {layer : List ℕ} (n m : ℕ) → Filled from to value before layer → value ≤ m → Values n m before → Values n m layer
+  filled-values {layer} n m p l h i k = go (decLt i from) (decLt i to)
     where
       go : Dec (i < from) → Dec (i < to) → getD layer i 0 ≤ m
       go (yes a) b = rw (p .others i (inl a)) (h i k)
@@ -83,12 +84,12 @@ pub record Reading (s : Setting) (g k : ℕ) (before layer : List ℕ) (carried 
   pub marginal-most : word (s .r1) (s .r2) layer (g + 1) k ≤ scale
   pub bad-most : carried ≤ scale
 
-module _ (s : Setting) (y g from to : ℕ) (before : List ℕ) where
-  pub further-none : (bad : ℕ) → bad ≡ word (s .r1) (s .r2) before (g + 1) to → Further-to s y g from to before before bad to
-  further-none bad e = record { same = refl; at-least = omega arith; at-most = omega arith; done = λ k h l. absurd (omega arith); others = λ i h. refl; bad-is = e }
+module _ {s : Setting} {y g from to : ℕ} {before : List ℕ} where
+  pub further-none : {bad : ℕ} → bad ≡ word (s .r1) (s .r2) before (g + 1) to → Further-to s y g from to before before bad to
+  further-none e = record { same = refl; at-least = omega arith; at-most = omega arith; done = λ k h l. absurd (omega arith); others = λ i h. refl; bad-is = e }
 
-  pub further-all : (layer : List ℕ) (bad b : ℕ) → Further-to s y g from to before layer bad b → b ≤ from → Further s y g from to before layer
-  further-all layer bad b p l =
+  pub further-all : {layer : List ℕ} {bad b : ℕ} → Further-to s y g from to before layer bad b → b ≤ from → Further s y g from to before layer
+  further-all {layer} {bad} {b} p l =
       record {
         done = λ k h m. p .done k (omega arith) m;
         others = λ i h. p .others i
@@ -133,13 +134,32 @@ reading {s} {d} {y} {g} {from} {to} {bad} {b} {before} {layer} p some h m =
       bad-most = rw (p .bad-is) (most (g + 1) b);
     }
 
+-- what the mean of this state asks, of its weights and of what stands after a marginal unit
+pub record Turn (s : Setting) (layer : List ℕ) (w : Weights) (g k marginal bad : ℕ) : Type 0 where
+  pub proportions : Proportions w
+  pub values : (getD layer (g * s .r2 + k) 0 ≤ scale) × (marginal ≤ scale) × (bad ≤ scale)
+
+pub turn : {s : Setting} {d : Reciprocal} {y g from to bad b : ℕ} {before layer : List ℕ} → Further-to s y g from to before layer bad b → from < b
+    → Valued before s → Between s d y g to → Weighs s y g from to
+    → {w : Weights} → w ≡ setting-weights s (at y g (b - 1)) → {marginal : ℕ} → marginal ≡ word (s .r1) (s .r2) layer (g + 1) (b - 1)
+    → Turn s layer w g (b - 1) marginal bad
+turn {s} {d} {y} {g} {from} {to} {bad} {b} p more h m weighs e f =
+    let read = reading p (omega arith) h m in
+    record {
+      proportions = record {
+        some = rw e (weighs (b - 1) (omega arith) (omega (arith, p .at-most)) (omega (arith, p .at-most, m .upto)));
+        few = rw e (omega (arith, weights-few s (at y g (b - 1)), h .few));
+      };
+      values = (read .good-most, rw f (read .marginal-most), read .bad-most);
+    }
+
 -- ---- the row: rejected states filled, those between the limits stepped, accepted states filled
 
 -- the whole row stands in the layer
-pub row-room : (layer : List ℕ) (s : Setting) (g : ℕ) → Valued layer s → g < s .r1 → g * s .r2 + s .r2 ≤ length layer
-row-room layer s g h l = omega (arith, h .room, mul-le-mul-right (s .r2) l, suc-mul g (s .r2))
+pub row-room : {layer : List ℕ} {s : Setting} {g : ℕ} → Valued layer s → g < s .r1 → g * s .r2 + s .r2 ≤ length layer
+row-room {layer} {s} {g} h l = omega (arith, h .room, mul-le-mul-right (s .r2) l, suc-mul g (s .r2))
 
-module _ (s : Setting) (y g accept reject from to end : ℕ) (before layer1 layer2 layer3 : List ℕ)
+module _ {s : Setting} {y g accept reject from to end : ℕ} {before layer1 layer2 layer3 : List ℕ}
     (ends : end ≡ min (g + 1) (s .r2)) (from-is : from ≡ min accept end) (to-is : to ≡ min reject end)
     (rejected : Filled (g * s .r2 + to) (g * s .r2 + end) 0 before layer1)
     (stepped : Further s y g from to layer1 layer2)

@@ -1,9 +1,9 @@
--- What the proofs of several functions use, and the laws for whoever stands on this crate (Promise).
+-- What the proofs of several functions use, and the laws for whoever stands on this crate (Laws).
 mod Rounding
 mod Sums
 mod Enclosure
 mod SampleValue
-mod Law
+mod ChanceLaw
 mod Quotient
 mod States
 mod InRow
@@ -12,4 +12,4 @@ mod InPlace
 mod Induction
 mod Parts
 mod Replies
-pub mod Promise
+pub mod Laws

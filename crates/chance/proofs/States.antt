@@ -1,6 +1,6 @@
 -- One state of a layer: where its word stands, what its step reads, and what its value is.
 -- Assumes nothing.
-use Prim.Native.Nat.{ℕ, _+_, _-_, _*_, _≤_, _<_}
+use Prim.Native.Nat.{ℕ, _+_, _*_, _≤_, _<_}
 use mathlib.Core.Path.{_≡_, refl, sym, ap, _∙_}
 use mathlib.Core.Bool.{Bool, true, false, cond}
 use mathlib.Core.List.{List}
@@ -24,7 +24,7 @@ pub record Products (w : Weights) (m good marginal bad : ℕ) : Type 0 where
   pub of-marginal : w .marginal * marginal ≤ w .marginal * m
   pub of-bad : w .bad * bad ≤ w .bad * m
 
-module _ (w : Weights) (m good marginal bad : ℕ) (h : (good ≤ m) × (marginal ≤ m) × (bad ≤ m)) where
+module _ (w : Weights) {m good marginal bad : ℕ} (h : (good ≤ m) × (marginal ≤ m) × (bad ≤ m)) where
   pub products : Products w m good marginal bad
   products = record { of-good = mul-le-mul-left (w .good) (h .0); of-marginal = mul-le-mul-left (w .marginal) (h .1); of-bad = mul-le-mul-left (w .bad) (h .2) }
 
@@ -98,4 +98,4 @@ module _ (s : Setting) (before : List ℕ) (y g b : ℕ) where
   pub further-at-most : (m : ℕ) → Values (s .r1 * s .r2) m before → 0 < weight-sum (setting-weights s (at y g b)) → further s before y g b ≤ s .cost + m
   further-at-most m h some =
       let at-most : (g b : ℕ) → word (s .r1) (s .r2) before g b ≤ m = λ g b. word-at-most (s .r1) (s .r2) before g b m h in
-      omega (arith, mean-at-most (setting-weights s (at y g b)) m _ _ _ (at-most g b, at-most (g + 1) b, at-most (g + 1) (b + 1)) (rounding (s .up)) some)
+      omega (arith, mean-at-most (setting-weights s (at y g b)) (at-most g b, at-most (g + 1) b, at-most (g + 1) (b + 1)) (rounding (s .up)) some)

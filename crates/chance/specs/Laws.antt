@@ -1,5 +1,5 @@
 -- The laws of the chance of acceptance, its bounds, its chart and its refusals: statements alone. They are proved in
--- proofs/Promise.antt.
+-- proofs/Laws.antt.
 use Prim.Native.Nat.{ℕ, zero, suc, _+_, _-_, _*_, _^_, _≤_, _<_}
 use mathlib.Core.Path.{_≡_}
 use mathlib.Core.Logic.{_⊎_}

@@ -22,7 +22,7 @@ use Rattle.chance.specs.declared.answers.BoundsAnswer.the-variants as bounds
 use Rattle.chance.specs.declared.answers.ChartAnswer.{ChartAnswer}
 use Rattle.chance.specs.declared.answers.ChartAnswer.the-variants as chart
 use Rattle.chance.specs.Reply as chance
-use Rattle.chance.proofs.Promise.{refusal-law}
+use Rattle.chance.proofs.Laws.{refusal-law}
 use Rattle.export.specs.Returned.{judge-reply, bounds-reply, chart-number}
 use Rattle.export.specs.Laws.{Chart-granted, Zero-exactly, Zero-law}
 

@@ -11,32 +11,17 @@ Inv-loop layer₀ from to value i₀ layer i = Fill-to from to value layer₀ la
 abbrev μ-loop : tie.MeasureT-loop
 μ-loop layer₀ from to value i₀ layer i = to - i
 
-slice-write-layer : tie.Need-slice-write-layer Inv-loop μ-loop
-slice-write-layer c = omega (arith, c .before .loop .inv .same)
-
-loop-again : tie.Need-loop-again Inv-loop μ-loop
-loop-again c =
-    let a = c .before .before .args in
-    let l = c .before .loop in
-    fill-more (a .from) (a .to) (a .value) (a .layer .now) (l .layer) (l .i) (l .inv) (omega arith) (omega (arith, l .inv .same))
-
-returns : tie.Need-returns Inv-loop μ-loop
-returns c =
-    let a = c .before .before .args in
-    let l = c .before .loop in
-    fill-all (a .from) (a .to) (a .value) (a .layer .now) (l .layer) (l .i) (l .inv) (omega arith)
-
 pub fill-spec : {M : Type 1} → statement M
 fill-spec =
     tie.close
     (tie.spec
     Inv-loop
     μ-loop
-    (λ c. fill-none (c .args .from) (c .args .to) (c .args .value) (c .args .layer .now))
+    (λ c. fill-none)
     (λ c. omega (arith, c .before .loop .inv .same))
-    slice-write-layer
+    (λ c. omega (arith, c .before .loop .inv .same))
     (λ c. omega arith)
     (λ c. omega arith)
-    loop-again
+    (λ c. let l = c .before .loop in fill-more (l .inv) (omega arith) (omega (arith, l .inv .same)))
     (λ c. c .before .loop .inv .same)
-    returns)
+    (λ c. fill-all (c .before .loop .inv) (omega arith)))

@@ -3,7 +3,7 @@
 use Rattle.chance.specs.Laws.{Width-law, Rounding-law, Chance-law, Fraction-law, Refusal-law, Words-law}
 use Rattle.chance.proofs.Rounding as rounding
 use Rattle.chance.proofs.Enclosure as enclosure
-use Rattle.chance.proofs.Law as law
+use Rattle.chance.proofs.ChanceLaw as chance
 use Rattle.chance.proofs.Quotient as quotient
 use Rattle.chance.proofs.Replies as replies
 
@@ -14,7 +14,7 @@ pub rounding-law : Rounding-law
 rounding-law = enclosure.rounding-law
 
 pub chance-law : Chance-law
-chance-law = law.chance-law
+chance-law = chance.chance-law
 
 pub fraction-law : Fraction-law
 fraction-law = quotient.fraction-law
