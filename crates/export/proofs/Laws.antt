@@ -1,7 +1,7 @@
 -- The number 0 is returned exactly when the call is granted. Assumes nothing.
 use mathlib.Core.Path.{_≡_, refl, ap}
 use mathlib.Core.Logic.{_↔_, _≢_}
-use Rattle.plan.specs.Reply.{refused}
+use Rattle.plan.specs.Reply.{Reply, granted, refused}
 use Rattle.plan.proofs.Refusals.{never-zero}
 use Rattle.sheetmodel.specs.declared.reply.Done.{Done}
 use Rattle.sheetmodel.specs.declared.reply.Done.the-variants as done
@@ -17,16 +17,15 @@ use Rattle.judge.specs.declared.list.Judged.{Judged}
 use Rattle.judge.specs.declared.list.Judged.the-variants as judged
 use Rattle.judge.specs.Judge as judge
 use Rattle.judge.proofs.Laws.{refused-rightly}
-use Rattle.chance.specs.declared.answers.BoundsAnswer.{BoundsAnswer}
-use Rattle.chance.specs.declared.answers.BoundsAnswer.the-variants as bounds
-use Rattle.chance.specs.declared.answers.ChartAnswer.{ChartAnswer}
-use Rattle.chance.specs.declared.answers.ChartAnswer.the-variants as chart
-use Rattle.chance.specs.Reply as chance
 use Rattle.chance.proofs.Laws.{refusal-law}
-use Rattle.export.specs.Returned.{judge-reply, bounds-reply, chart-number}
-use Rattle.export.specs.Laws.{Chart-granted, Zero-exactly, Zero-law}
+use Rattle.export.specs.Returned.{judge-reply}
+use Rattle.export.specs.Laws.{Zero-exactly, Zero-law}
 
 -- ---- an answer that is no refusal with the number 0
+
+of-reply : (r : Reply) → r ≢ refused 0 → Zero-exactly r
+of-reply (granted values) not = (λ e. tt, λ g. refl)
+of-reply (refused n) not = (λ e. not (ap refused e), λ g. absurd g)
 
 of-done : (d : Done) → d ≢ done.Refused 0 → Zero-exactly (done-reply d)
 of-done done.Ok not = (λ e. tt, λ g. refl)
@@ -48,14 +47,6 @@ of-judged : (j : Judged) → j ≢ judged.Refused 0 → Zero-exactly (judge-repl
 of-judged (judged.Stops j) not = (λ e. tt, λ g. refl)
 of-judged (judged.Refused n) not = (λ e. not (ap judged.Refused e), λ g. absurd g)
 
-of-bounds : (b : BoundsAnswer) → chance.bounds-reply b ≢ refused 0 → Zero-exactly (bounds-reply b)
-of-bounds (bounds.Pair b) not = (λ e. tt, λ g. refl)
-of-bounds (bounds.Refused n) not = (λ e. not (ap refused e), λ g. absurd g)
-
-of-chart : (a : ChartAnswer) → chance.chart-reply a ≢ refused 0 → (chart-number a ≡ 0) ↔ Chart-granted a
-of-chart (chart.Pair c) not = (λ e. tt, λ g. refl)
-of-chart (chart.Refused n) not = (λ e. not (ap refused e), λ g. absurd g)
-
 -- ---- the calls
 
 pub zero-law : Zero-law
@@ -69,6 +60,6 @@ zero-law = record {
   tallying = λ w. of-tallied _ (demand-1 w .tallying .by-rows .never-zero);
   estimating = λ n w. of-estimated _ (demand-1 w .estimating n .by-rows .never-zero);
   judging = λ p list. of-judged (judge.judged p list) (λ e. never-zero (judge.refusals p list) refl (refused-rightly p list 0 .0 e));
-  chance = λ p w n. of-bounds (chance.chance-answer p w n) (refusal-law p w n .0 .never-zero);
-  charting = λ p w n. of-chart (chance.chart-answer p w n) (refusal-law p w n .1 .never-zero);
+  chance = λ p w n. of-reply _ (refusal-law p w n .0 .never-zero);
+  charting = λ p w n. of-reply _ (refusal-law p w n .1 .never-zero);
 }

@@ -10,18 +10,12 @@ use Rattle.sheetmodel.specs.Calls.{fresh, open-lot, inspect, strike, close, loo
 use Rattle.sheetmodel.specs.Estimate.{estimate}
 use Rattle.judge.specs.Judge.{judged}
 use Rattle.chance.specs.declared.mean.Weights.{Weights}
-use Rattle.chance.specs.declared.answers.ChartAnswer.{ChartAnswer}
-use Rattle.chance.specs.declared.answers.ChartAnswer.the-variants as chart
-use Rattle.chance.specs.Reply.{chance-answer, chart-answer}
-use Rattle.export.specs.Returned.{number, judge-reply, bounds-reply, chart-number}
+use Rattle.chance.specs.Reply.{bounds-reply, chart-reply, chance-answer, chart-answer}
+use Rattle.export.specs.Returned.{number, judge-reply}
 
 abbrev pub Granted : Reply → Type 0
 Granted (granted values) = Unit {0}
 Granted (refused n) = ⊥
-
-abbrev pub Chart-granted : ChartAnswer → Type 0
-Chart-granted (chart.Pair c) = Unit {0}
-Chart-granted (chart.Refused n) = ⊥
 
 abbrev pub Zero-exactly : Reply → Type 0
 Zero-exactly r = (number r ≡ 0) ↔ Granted r
@@ -38,4 +32,4 @@ pub record Zero-law : Type 0 where
   pub estimating : (n : ℕ) (w : List ℕ) → Zero-exactly (estimate-reply (estimate n w .reply))
   pub judging : (p list : List ℕ) → Zero-exactly (judge-reply (judged p list))
   pub chance : (p : List ℕ) (w : Weights) (n : ℕ) → Zero-exactly (bounds-reply (chance-answer p w n))
-  pub charting : (p : List ℕ) (w : Weights) (n : ℕ) → (chart-number (chart-answer p w n) ≡ 0) ↔ Chart-granted (chart-answer p w n)
+  pub charting : (p : List ℕ) (w : Weights) (n : ℕ) → Zero-exactly (chart-reply (chart-answer p w n))

@@ -4,8 +4,8 @@ use chance::BoundsAnswer;
 use chance::ChartAnswer;
 ghost use mathlib.Core.Path.{_≡_};
 ghost use lib.ListN.{length};
-ghost use Rattle.chance.specs.Reply.{weights-of, chance-answer, chart-answer, Exact-chart, Keeps};
-ghost use Rattle.export.specs.Returned.{number, left, bounds-reply, chart-number, chart-left};
+ghost use Rattle.chance.specs.Reply.{weights-of, bounds-reply, chart-reply, chart-values, chance-answer, chart-answer, Exact-chart, Keeps};
+ghost use Rattle.export.specs.Returned.{number, left, left-floats};
 
 // Out: low, high.
 #[no_mangle]
@@ -40,8 +40,8 @@ pub extern "C" fn haq_chart(
     scratch: &mut [u64],
     out: &mut [f64; 2],
 ) -> u32
-    ensures { λ r. ⌜ r ≡ chart-number (chart-answer (now (plan .entry)) (weights-of w0 w1 w2) (length (now (scratch .entry)))) ⌝ }
-    ensures { λ _. ⌜ now (out .exit) ≡ chart-left (chart-answer (now (plan .entry)) (weights-of w0 w1 w2) (length (now (scratch .entry)))) (now (out .entry)) ⌝ }
+    ensures { λ r. ⌜ r ≡ number (chart-reply (chart-answer (now (plan .entry)) (weights-of w0 w1 w2) (length (now (scratch .entry))))) ⌝ }
+    ensures { λ _. ⌜ now (out .exit) ≡ left-floats (chart-reply (chart-answer (now (plan .entry)) (weights-of w0 w1 w2) (length (now (scratch .entry))))) (chart-values (chart-answer (now (plan .entry)) (weights-of w0 w1 w2) (length (now (scratch .entry))))) (now (out .entry)) ⌝ }
     ensures { λ _. ⌜ Exact-chart (now (plan .entry)) (weights-of w0 w1 w2) (chart-answer (now (plan .entry)) (weights-of w0 w1 w2) (length (now (scratch .entry)))) ⌝ }
     ensures { λ _. ⌜ Keeps (now (plan .entry)) (weights-of w0 w1 w2) (now (scratch .entry)) (now (scratch .exit)) ⌝ }
 {
