@@ -1,5 +1,5 @@
-// The states of g nongood units, in place: from the values at y + 1 units to those at y. The state of g nongood
-// and b bad units stands at g * r2 + b, for g below r1 and b below r2.
+// A row of a layer, the states of g nongood units, in place: from the values at y + 1 units to those at y. The
+// state of g nongood and b bad units stands at g * r2 + b, for g below r1 and b below r2.
 use crate::division::Reciprocal;
 use crate::mean::mean;
 use crate::setting::Setting;
@@ -23,7 +23,7 @@ pub fn fill(layer: &mut [u64], from: usize, to: usize, value: u64)
     }
 }
 
-// The value of g nongood and b bad units, which is 0 where a count reaches its last rejection number.
+// The value of g nongood and b bad units, which is 0 where g reaches r1.
 fn value_at(layer: &[u64], r1: usize, r2: usize, g: usize, b: usize) -> u64
     requires { ⌜ r1 * r2 ≤ length (now layer) ⌝ }
     requires { ⌜ b < r2 ⌝ }
@@ -32,6 +32,7 @@ fn value_at(layer: &[u64], r1: usize, r2: usize, g: usize, b: usize) -> u64
     if g < r1 { layer[g * r2 + b] } else { 0 }
 }
 
+// The same, for b that may reach r2.
 fn edge_value(layer: &[u64], r1: usize, r2: usize, g: usize, b: usize) -> u64
     requires { ⌜ r1 * r2 ≤ length (now layer) ⌝ }
     ensures { λ r. ⌜ r ≡ word r1 r2 (now (layer .entry)) g b ⌝ }
