@@ -1,6 +1,6 @@
 -- The number 0 is returned exactly when the call is granted. Assumes nothing.
-use mathlib.Core.Path.{_≡_, refl, ap}
-use mathlib.Core.Logic.{_↔_, _≢_}
+use mathlib.Core.Path.{refl, ap}
+use mathlib.Core.Logic.{_≢_}
 use Rattle.plan.specs.Reply.{Reply, granted, refused}
 use Rattle.plan.proofs.Refusals.{never-zero}
 use Rattle.sheetmodel.specs.declared.reply.Done.{Done}
