@@ -17,9 +17,9 @@ use Rattle.plan.specs.declared.ways.StageWay.{StageWay}
 use Rattle.plan.specs.declared.ways.StageWay.the-variants.{Semi, Full}
 use Rattle.plan.specs.declared.ways.Way.{Way}
 use Rattle.plan.specs.declared.ways.Way.the-variants.{Staged, Earliest}
-use Rattle.plan.specs.Plan.{stages, first, admitted}
+use Rattle.plan.specs.Plan.{stages, admitted}
 use Rattle.plan.specs.Counts.{units, no-units, add-units, counts}
-use Rattle.plan.specs.Stopping.{full-at, staged, answer}
+use Rattle.plan.specs.Stopping.{staged, answer}
 use Rattle.plan.specs.Sample.{Classes, Stops}
 use Rattle.plan.specs.Promise.{earliest-rule, staged-rule, One-stage}
 use Rattle.plan.proofs.Promise.{shape, one-stage, promise, counting}
@@ -163,7 +163,7 @@ module _ (w : List ℕ) (e : admitted w ≡ true) where
     next-event : (xs : List ℕ) (i : ℕ) → i < length xs → staged Full (stages w) (counts (take i xs)) ≡ GoOn
         → (v : Answer) → v ≢ GoOn → staged Full (stages w) (counts (take (i + 1) xs)) ≡ v
         → how-many (events (getD w 0 0) (getD w 2 0) (getD w 4 0) (counts (take (i + 1) xs))) ≡ 1
-    next-event xs i l g v d f = rw c-is (go v d (sym (o .full (add-units (getD xs i 0) 1 (counts (take i xs))) u) ∙ rw c-is at f))
+    next-event xs i l g v d f = rw c-is (go v d (rw c-is at f))
       where
         o : One-stage w
         o = one-stage w e n
@@ -177,14 +177,11 @@ module _ (w : List ℕ) (e : admitted w ≡ true) where
           | no m ↦ omega arith
         ]
 
-        before : full-at (getD w 0 0) (first w) (counts (take i xs)) ≡ GoOn
-        before = sym (o .full (counts (take i xs)) (omega (arith, u, counting .added (getD xs i 0) 1 (counts (take i xs))))) ∙ g
-
-        go : (a : Answer) → a ≢ GoOn → full-at (getD w 0 0) (first w) (add-units (getD xs i 0) 1 (counts (take i xs))) ≡ a
+        go : (a : Answer) → a ≢ GoOn → staged Full (stages w) (add-units (getD xs i 0) 1 (counts (take i xs))) ≡ a
             → how-many (events (getD w 0 0) (getD w 2 0) (getD w 4 0) (add-units (getD xs i 0) 1 (counts (take i xs)))) ≡ 1
         go GoOn m h = absurd (m refl)
-        go Accept m h = accepted _ _ _ _ (at-acceptance (getD w 0 0) (first w) (getD xs i 0) (counts (take i xs)) (o .row1) (o .row2) (o .rows) (o .within) u before h)
-        go Reject m h = rejected _ _ _ _ (at-rejection (getD w 0 0) (first w) (getD xs i 0) (counts (take i xs)) (o .row1) (o .row2) (o .rows) (o .within) u before h)
+        go Accept m h = accepted _ _ _ _ (at-acceptance w o (getD xs i 0) (counts (take i xs)) u g h)
+        go Reject m h = rejected _ _ _ _ (at-rejection w o (getD xs i 0) (counts (take i xs)) u g h)
 
     one-event : (xs : List ℕ) → stop-of (Staged Full) w xs .answer ≢ GoOn
         → how-many (events (getD w 0 0) (getD w 2 0) (getD w 4 0) (stop-of (Staged Full) w xs .counts)) ≡ 1

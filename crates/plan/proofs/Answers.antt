@@ -1,19 +1,15 @@
--- An answer by two tests: rejection, then acceptance. Assumes nothing.
-use mathlib.Core.Path.{_≡_, refl}
-use mathlib.Core.Bool.{Bool, true, false, cond}
-use Rattle.plan.specs.declared.stage.Answer.{Answer}
+-- The three answers differ. Assumes nothing.
+use Prim.Native.Nat.{ℕ}
+use native.Mathlib.Omega.{arith}
+use mathlib.Core.Path.{_≡_}
+use mathlib.Core.Logic.{_≢_}
 use Rattle.plan.specs.declared.stage.Answer.the-variants.{GoOn, Accept, Reject}
 
-pub rejecting : (r : Bool) (later : Answer) → r ≡ true → Reject ≡ cond r Reject later
-rejecting true later e = refl
-rejecting false later e = cc
+pub accept-stops : Accept ≢ GoOn
+accept-stops e = let z : _≡_ {A = ℕ} 0 1 = cc in omega arith
 
-pub going-on : (r : Bool) (later : Answer) → r ≡ false → later ≡ cond r Reject later
-going-on true later e = cc
-going-on false later e = refl
+pub reject-stops : Reject ≢ GoOn
+reject-stops e = let z : _≡_ {A = ℕ} 0 1 = cc in omega arith
 
-pub accepting : (r a : Bool) → r ≡ false → a ≡ true → Accept ≡ cond r Reject (cond a Accept GoOn)
-accepting r a e f = rw (e, f)
-
-pub neither : (r a : Bool) → r ≡ false → a ≡ false → GoOn ≡ cond r Reject (cond a Accept GoOn)
-neither r a e f = rw (e, f)
+pub accept-not-reject : Accept ≢ Reject
+accept-not-reject e = let z : _≡_ {A = ℕ} 0 1 = cc in omega arith

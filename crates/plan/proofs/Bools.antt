@@ -1,6 +1,12 @@
--- Laws of `&&` beyond the library's, for all crates. Assumes nothing.
+-- Laws of tests beyond the library's, for all crates. Assumes nothing.
+use Prim.Native.Nat.{ℕ}
+use native.Mathlib.Omega.{arith}
 use mathlib.Core.Path.{_≡_}
+use mathlib.Core.Logic.{_≢_}
 use mathlib.Core.Bool.{Bool, true, false, _&&_, and-eq-true-iff, and-false}
+
+pub true-not-false : true ≢ false
+true-not-false e = let z : _≡_ {A = ℕ} 0 1 = cc in omega arith
 
 pub and-left : (a b : Bool) → a && b ≡ true → a ≡ true
 and-left a b e = and-eq-true-iff a b .0 e .0

@@ -1,6 +1,6 @@
 -- The four ways compared: the earliest stop is no later than any, and semi and full reject at one unit.
 -- Assumes nothing.
-use Prim.Native.Nat.{ℕ, suc, _+_, _-_, _≤_, _<_}
+use Prim.Native.Nat.{ℕ, suc, _+_, _≤_, _<_}
 use mathlib.Core.Path.{_≡_, refl, sym, ap, _∙_}
 use mathlib.Core.Logic.{_↔_, _⊎_, inl, inr}
 use mathlib.Core.Bool.{Bool, true, false, cond}
@@ -16,10 +16,12 @@ use Rattle.plan.specs.declared.stage.Answer.the-variants.{GoOn, Accept, 
 use Rattle.plan.specs.declared.ways.StageWay.{StageWay}
 use Rattle.plan.specs.declared.ways.StageWay.the-variants.{Semi, Full}
 use Rattle.plan.specs.Plan.{Stage, total}
-use Rattle.plan.specs.Counts.{units, nongood, nonbad, counts}
-use Rattle.plan.specs.Stopping.{rejects, accepts, at-end, uncurtailed-at, at-stage, current, staged}
+use Rattle.plan.specs.Counts.{units, counts}
+use Rattle.plan.specs.Stopping.{rejects, at-end, full-at, at-stage, current, staged}
 use Rattle.plan.specs.Sample.{Classes, Completion, All-have, Stops}
 use Rattle.plan.specs.Promise.{earliest-rule, staged-rule}
+use Rattle.plan.proofs.Answers.{accept-stops, reject-stops, accept-not-reject}
+use Rattle.plan.proofs.Decide.{decided-reject, when-reject}
 use Rattle.plan.proofs.FirstPlace.{Never, First, first}
 use Rattle.plan.proofs.Limits.{Limits}
 use Rattle.plan.proofs.Sample.{classes-take}
@@ -66,28 +68,21 @@ staged-alike a b f p c = go 0 p
 
 -- by the rejection test alone
 end-rejects : (s : Stage) (c : Counts) → at-end s c ≡ Reject → rejects s c ≡ true
-end-rejects s c = go (rejects s c) (accepts s (c .bad) (nongood c))
-  where
-    go : (r a : Bool) → cond r Reject (cond a Accept GoOn) ≡ Reject → r ≡ true
-    go true a e = refl
-    go false true e = absurd (let z : _≡_ {A = ℕ} 0 1 = cc in omega arith)
-    go false false e = absurd (let z : _≡_ {A = ℕ} 0 1 = cc in omega arith)
+unfolding at-end
+end-rejects s c e = when-reject _ _ e
 
 semi-full : Alike Semi Full
-semi-full end s c = go (rejects s c) (eqb (units c) end) refl
+unfolding full-at
+semi-full end s c e = decided-reject _ _ (go (rejects s c) (eqb (units c) end) refl e)
   where
-    go : (r t : Bool) → rejects s c ≡ r → cond r Reject (cond t (at-end s c) GoOn) ≡ Reject → cond r Reject (cond (accepts s (end - nonbad c) (end - c .good)) Accept GoOn) ≡ Reject
+    go : (r t : Bool) → rejects s c ≡ r → cond r Reject (cond t (at-end s c) GoOn) ≡ Reject → r ≡ true
     go true t e f = refl
-    go false true e f = absurd (let z : _≡_ {A = ℕ} 0 1 = cc (end-rejects s c f) in omega arith)
-    go false false e f = absurd (let z : _≡_ {A = ℕ} 0 1 = cc in omega arith)
+    go false true e f = sym e ∙ end-rejects s c f
+    go false false e f = absurd (reject-stops (sym f))
 
 full-semi : Alike Full Semi
-full-semi end s c = go (rejects s c) (accepts s (end - nonbad c) (end - c .good))
-  where
-    go : (r a : Bool) → cond r Reject (cond a Accept GoOn) ≡ Reject → cond r Reject (uncurtailed-at end s c) ≡ Reject
-    go true a f = refl
-    go false true f = absurd (let z : _≡_ {A = ℕ} 0 1 = cc in omega arith)
-    go false false f = absurd (let z : _≡_ {A = ℕ} 0 1 = cc in omega arith)
+unfolding full-at
+full-semi end s c e = rw (when-reject _ _ e)
 
 module _ (p : List Stage) (l : Limits p) (x : List ℕ) (c : Classes x) where
   -- ---- the earliest stop is no later
@@ -123,10 +118,9 @@ module _ (p : List Stage) (l : Limits p) (x : List ℕ) (c : Classes x) where
       stop : (t : First f (suc y)) (u : Answer) → f (t .at) ≡ u → Stops (staged-rule b p) x y Reject
       stop t GoOn e = absurd (t .stops e)
       stop t Accept e =
-          let there : Stops (staged-rule b p) x (t .at) Accept = record { within = omega (arith, t .before, s .within); there = e; decides = λ g. let z : _≡_ {A = ℕ} 0 1 = cc in omega arith; first = t .never } in
-          let same : Accept ≡ Reject = one p x c (t .at) y (omega (arith, t .before)) (s .within) (within-plan p l a x y Reject s) Accept Reject
-          (sound p l b x (t .at) Accept there) (sound p l a x y Reject s) in
-          absurd (let z : _≡_ {A = ℕ} 0 1 = cc in omega arith)
+          let there : Stops (staged-rule b p) x (t .at) Accept = record { within = omega (arith, t .before, s .within); there = e; decides = accept-stops; first = t .never } in
+          absurd (accept-not-reject (one p x c (t .at) y (omega (arith, t .before)) (s .within) (within-plan p l a x y Reject s) Accept Reject
+          (sound p l b x (t .at) Accept there) (sound p l a x y Reject s)))
       stop t Reject e = last (decLt (t .at) y)
         where
           last : Dec (t .at < y) → Stops (staged-rule b p) x y Reject

@@ -1,25 +1,28 @@
 -- A plan of one stage: full and earliest agree, and full by the stage's words.
 -- Assumes nothing.
 use Prim.Native.Nat.{ℕ, _+_, _-_, _≤_, _<_}
-use mathlib.Core.Path.{_≡_, refl, sym, ap, ap₂, _∙_}
-use mathlib.Core.Bool.{Bool, true, false, cond, _&&_, _||_, or-true}
+use mathlib.Core.Path.{_≡_, refl, sym, subst, ap, ap₂, _∙_}
+use mathlib.Core.Logic.{_↔_, _⊎_, inl, inr, ⊎-elim}
+use mathlib.Core.Bool.{Bool, true, false}
 use mathlib.Core.List.{List, [], _∷_}
 use native.Mathlib.Omega.{arith}
 use native.Mathlib.Decide.{decLt}
 use lib.ListN.{length, getD}
 use lib.Dec.{leb}
-use borrow.Author.Tests.{leb-true, leb-false, le-leb, lt-leb, eqb-true}
+use borrow.Author.Tests.{leb-true, eqb-true}
 use Rattle.plan.specs.declared.counts.Counts.{Counts}
 use Rattle.plan.specs.declared.stage.Answer.{Answer}
 use Rattle.plan.specs.declared.stage.Answer.the-variants.{GoOn, Accept, Reject}
 use Rattle.plan.specs.declared.ways.StageWay.the-variants.{Full}
 use Rattle.plan.specs.Plan.{Stage, stages, first, total, admitted}
-use Rattle.plan.specs.Counts.{units, nongood, nonbad}
-use Rattle.plan.specs.Stopping.{or-else, accepts, at-end, full-at, at-filled, settled, staged, earliest}
+use Rattle.plan.specs.Counts.{units, nongood, nonbad, add-units}
+use Rattle.plan.specs.Stopping.{or-else, rejects, accepts, decide, at-end, full-at, at-filled, settled, staged, earliest}
 use Rattle.plan.specs.Promise.{One-stage}
-use Rattle.plan.proofs.Bools.{and-left, and-right}
+use Rattle.plan.proofs.Bools.{true-not-false, and-left}
+use Rattle.plan.proofs.Decide.{decided-reject, decided-accept, decided-on, when-reject, when-accept, when-on}
+use Rattle.plan.proofs.StageTests.{rejects-from, rejects-reaches, rejects-same, not-rejects-below, not-rejects-is, fewer-accepted}
 use Rattle.plan.proofs.Ends.{current-here, current-past, end-past, end-due}
-use Rattle.plan.proofs.Limits.{Limits, tests}
+use Rattle.plan.proofs.Limits.{Sound, Decides, Limits, tests, limits}
 use Rattle.plan.proofs.Stages.{stages-more, after-none}
 use Rattle.plan.proofs.Units.{add-good, add-bad}
 
@@ -29,66 +32,96 @@ or-else-none Accept = refl
 or-else-none Reject = refl
 
 -- full and the two cases, by their tests: W and A are rejection and acceptance of the worst case, R rejection of the best
-by-tests : (W A R B : Bool) → (A ≡ true → W ≡ false) → (A ≡ false → W ≡ true) → (A ≡ true → R ≡ false)
-    → cond R Reject (cond A Accept GoOn) ≡ settled (cond W Reject (cond A Accept GoOn)) (cond R Reject (cond B Accept GoOn))
-by-tests W true R B f g h = rw (f refl, h refl)
-by-tests W false true B f g h = rw (g refl)
-by-tests W false false true f g h = rw (g refl)
-by-tests W false false false f g h = rw (g refl)
+by-tests : (W A R B : Bool) → (A ≡ true → W ≡ false) → (W ≡ false → A ≡ true) → (A ≡ true → R ≡ false)
+    → decide R A ≡ settled (decide W A) (decide R B)
+by-tests W true R B f g h = rw (decided-accept R true (h refl) refl, decided-accept W true (f refl) refl)
+by-tests false false R B f g h = cc (g refl)
+by-tests true false true B f g h = rw (decided-reject true false refl, decided-reject true B refl)
+by-tests true false false true f g h = rw (decided-on false false refl refl, decided-reject true false refl, decided-accept false true refl refl)
+by-tests true false false false f g h = rw (decided-on false false refl refl, decided-reject true false refl)
 
-module _ (s : Stage) (e1 : s .accept1 + 1 ≡ s .reject1) (e2 : s .accept2 + 1 ≡ s .reject2) where
-  -- b bad and m nongood units are accepted, or rejected, and not both
-  not-rejected : (b m b′ m′ : ℕ) → b′ ≤ b → m′ ≤ m → accepts s b m ≡ true → leb (s .reject2) b′ || leb (s .reject1) m′ ≡ false
-  not-rejected b m b′ m′ h k e =
-      let b-low : b ≤ s .accept2 = leb-true _ _ (and-left (leb b (s .accept2)) _ e) in
-      let m-low : m ≤ s .accept1 = leb-true _ _ (and-right (leb b (s .accept2)) _ e) in
-      simp (lt-leb (s .reject2) b′ (omega arith), lt-leb (s .reject1) m′ (omega arith))
+-- the only stage, which ends after n units
+module _ (s : Stage) (n : ℕ) (sound : Sound n s) (last : Decides s) (c : Counts) (u : units c ≤ n) where
+  -- with every unit left bad, and with every unit left good
+  abbrev worst : Counts
+  worst = add-units 2 (n - units c) c
 
-  rejected : (b m : ℕ) → accepts s b m ≡ false → leb (s .reject2) b || leb (s .reject1) m ≡ true
-  rejected b m = go (leb b (s .accept2)) (leb m (s .accept1)) refl refl
+  abbrev best : Counts
+  best = add-units 0 (n - units c) c
+
+  worst-bad : add-units 2 (n - units c) c .bad ≡ n - nonbad c
+  worst-bad = rw add-bad (omega arith)
+
+  worst-nongood : nongood (add-units 2 (n - units c) c) ≡ n - c .good
+  worst-nongood = rw add-bad (omega arith)
+
+  best-same : rejects s (add-units 0 (n - units c) c) ≡ rejects s c
+  best-same = rejects-same s c best (rw add-good refl) (rw add-good refl)
+
+  -- full is rejection now and acceptance of the worst case, which is accepted exactly if it is not rejected
+  full-is : full-at n s c ≡ decide (rejects s c) (accepts s (worst .bad) (nongood worst))
+  unfolding full-at
+  full-is = ap (decide (rejects s c)) (sym (ap₂ (accepts s) worst-bad worst-nongood))
+
+  not-now : accepts s (worst .bad) (nongood worst) ≡ true → rejects s c ≡ false
+  not-now e = sound .not-both c (fewer-accepted s (worst .bad) (nongood worst) (c .bad) (nongood c) (omega (arith, worst-bad)) (omega (arith, worst-nongood)) e)
+
+  agree-here : full-at n s c ≡ settled (or-else (at-filled 2 c n s) GoOn) (or-else (at-filled 0 c n s) GoOn)
+  unfolding at-end
+  agree-here =
+      rw (full-is, or-else-none (at-filled 2 c n s), or-else-none (at-filled 0 c n s), end-due 2 c n s u, end-due 0 c n s u, best-same)
+      (by-tests (rejects s worst) (accepts s (worst .bad) (nongood worst)) (rejects s c) _ (sound .not-both worst) (last worst) not-now)
+
+  -- full in numbers
+  accepts-if : (full-at n s c ≡ Accept) ↔ ((n < nonbad c + s .reject2) × (n < c .good + s .reject1))
+  accepts-if = (
+    (λ e.
+        let t = not-rejects-is s worst (sound .not-both worst (when-accept _ _ (sym full-is ∙ e) .1)) in
+        (omega (arith, t .0, worst-bad), omega (arith, t .1, worst-nongood))),
+    λ h.
+        let a = last worst (not-rejects-below s worst (omega (arith, worst-bad, sound .reject2)) (omega (arith, worst-nongood, sound .reject1))) in
+        full-is ∙ decided-accept _ _ (not-now a) a,
+  )
+
+  rejects-if : (full-at n s c ≡ Reject) ↔ ((s .reject1 ≤ nongood c) ⊎ (s .reject2 ≤ c .bad))
+  rejects-if = ((λ e. rejects-reaches s c (when-reject _ _ (sym full-is ∙ e))), λ h. full-is ∙ decided-reject _ _ (rejects-from s c h))
+
+  goes-on-if : (full-at n s c ≡ GoOn)
+      ↔ ((c .bad < s .reject2) × (nongood c < s .reject1) × ((nonbad c + s .reject2 ≤ n) ⊎ (c .good + s .reject1 ≤ n)))
+  goes-on-if = (to, from)
     where
-      go : (t u : Bool) → leb b (s .accept2) ≡ t → leb m (s .accept1) ≡ u → t && u ≡ false → leb (s .reject2) b || leb (s .reject1) m ≡ true
-      go true true e f g = absurd (let z : _≡_ {A = ℕ} 0 1 = cc in omega arith)
-      go true false e f g = simp (le-leb (s .reject1) m (omega (arith, leb-false m (s .accept1) f)), or-true)
-      go false u e f g = simp (le-leb (s .reject2) b (omega (arith, leb-false b (s .accept2) e)))
+      short : (b : Bool) → rejects s worst ≡ b → accepts s (worst .bad) (nongood worst) ≡ false → (nonbad c + s .reject2 ≤ n) ⊎ (c .good + s .reject1 ≤ n)
+      short false e f = absurd (true-not-false (sym (last worst e) ∙ f))
+      short true e f = ⊎-elim (λ k. inr (omega (arith, worst-nongood, sound .reject1))) (λ k. inl (omega (arith, worst-bad, sound .reject2))) (rejects-reaches s worst e)
 
-  module _ (c : Counts) where
-    abbrev n : ℕ
-    n = 0 + s .size
+      to : full-at n s c ≡ GoOn → (c .bad < s .reject2) × (nongood c < s .reject1) × ((nonbad c + s .reject2 ≤ n) ⊎ (c .good + s .reject1 ≤ n))
+      to e =
+          let t = when-on _ _ (sym full-is ∙ e) in
+          let r = not-rejects-is s c (t .0) in
+          (r .0, r .1, short _ refl (t .1))
 
-    -- the answer at the end with b bad and m nongood units
-    abbrev ended : ℕ → ℕ → Answer
-    ended b m = cond (leb (s .reject2) b || leb (s .reject1) m) Reject (cond (accepts s b m) Accept GoOn)
+      accepted-not : (b : Bool) → accepts s (worst .bad) (nongood worst) ≡ b → (nonbad c + s .reject2 ≤ n) ⊎ (c .good + s .reject1 ≤ n) → accepts s (worst .bad) (nongood worst) ≡ false
+      accepted-not false e k = e
+      accepted-not true e k =
+          let t = not-rejects-is s worst (sound .not-both worst e) in
+          absurd (⊎-elim (λ q. omega (arith, t .0, worst-bad)) (λ q. omega (arith, t .1, worst-nongood)) k)
 
-    worst : units c ≤ 0 + s .size → or-else (at-filled 2 c (0 + s .size) s) GoOn ≡ ended (0 + s .size - nonbad c) (0 + s .size - c .good)
-    worst u =
-        let b : c .bad + (0 + s .size - units c) ≡ 0 + s .size - nonbad c = omega arith in
-        let m : c .marginal + (c .bad + (0 + s .size - units c)) ≡ 0 + s .size - c .good = omega arith in
-        or-else-none _ ∙ end-due 2 c (0 + s .size) s u ∙ ap (at-end s) (add-bad (0 + s .size - units c) c) ∙ ap₂ ended b m
+      from : (c .bad < s .reject2) × (nongood c < s .reject1) × ((nonbad c + s .reject2 ≤ n) ⊎ (c .good + s .reject1 ≤ n)) → full-at n s c ≡ GoOn
+      from h = full-is ∙ decided-on _ _ (not-rejects-below s c (h .0) (h .1)) (accepted-not _ refl (h .2))
 
-    best : units c ≤ 0 + s .size → or-else (at-filled 0 c (0 + s .size) s) GoOn ≡ ended (c .bad) (nongood c)
-    best u = or-else-none _ ∙ end-due 0 c (0 + s .size) s u ∙ ap (at-end s) (add-good (0 + s .size - units c) c)
-
-    agree-here : units c ≤ 0 + s .size → full-at (0 + s .size) s c ≡ settled (or-else (at-filled 2 c (0 + s .size) s) GoOn) (or-else (at-filled 0 c (0 + s .size) s) GoOn)
-    agree-here u =
-        rw (worst u, best u)
-        (by-tests _ (accepts s (n - nonbad c) (n - c .good)) _ (accepts s (c .bad) (nongood c))
-        (not-rejected (n - nonbad c) (n - c .good) (n - nonbad c) (n - c .good) (omega arith) (omega arith)) (rejected (n - nonbad c) (n - c .good))
-        (not-rejected (n - nonbad c) (n - c .good) (c .bad) (nongood c) (omega arith) (omega arith)))
-
-    agree : staged Full (s ∷ []) c ≡ earliest (s ∷ []) c
-    unfolding staged earliest total
-    agree = go (decLt (0 + s .size) (units c))
-      where
-        go : Dec (0 + s .size < units c) → staged Full (s ∷ []) c ≡ earliest (s ∷ []) c
-        go (no l) = current-here full-at 0 s [] c (omega arith) ∙ agree-here (omega arith)
-        go (yes l) =
-            current-past full-at 0 (s ∷ []) c (omega arith)
-            ∙ ap₂ settled (sym (ap (λ (a : Answer). or-else a GoOn) (end-past 2 c (0 + s .size) s l))) (sym (ap (λ (a : Answer). or-else a GoOn) (end-past 0 c (0 + s .size) s l)))
+agree : (s : Stage) → Sound (0 + s .size) s → Decides s → (c : Counts) → staged Full (s ∷ []) c ≡ earliest (s ∷ []) c
+unfolding staged earliest total
+agree s sound last c = go (decLt (0 + s .size) (units c))
+  where
+    go : Dec (0 + s .size < units c) → staged Full (s ∷ []) c ≡ earliest (s ∷ []) c
+    go (no l) = current-here full-at 0 s [] c (omega arith) ∙ agree-here s (0 + s .size) sound last c (omega arith)
+    go (yes l) =
+        current-past full-at 0 (s ∷ []) c (omega arith)
+        ∙ ap₂ settled (sym (ap (λ (a : Answer). or-else a GoOn) (end-past 2 c (0 + s .size) s l))) (sym (ap (λ (a : Answer). or-else a GoOn) (end-past 0 c (0 + s .size) s l)))
 
 pub one-stage : (p : List Stage) → Limits p → length p ≡ 1 → (c : Counts) → staged Full p c ≡ earliest p c
 one-stage [] l e c = absurd (omega arith)
-one-stage (s ∷ []) l e c = agree s (eqb-true _ _ (l .apart1)) (eqb-true _ _ (l .apart2)) c
+one-stage (s ∷ []) l e c = agree s (l .sound .0) (l .last) c
 one-stage (s ∷ t ∷ rest) l e c = absurd (omega arith)
 
 -- the stage's words
@@ -113,14 +146,19 @@ past-one s c u = current-past full-at 0 (s ∷ []) c (omega arith)
 pub one-stage-words : (w : List ℕ) → admitted w ≡ true → length w ≡ 5 → One-stage w
 one-stage-words w e n =
     let t = tests w e in
+    let s : Stage = first w in
     let whole : 5 ≤ length w = omega arith in
     let only : stages w ≡ first w ∷ [] = stages-more w whole ∙ ap (λ (p : List Stage). first w ∷ p) (after-none w (omega arith)) in
+    let l : Limits (first w ∷ []) = rw only at (limits w e) in
+    let sound : Sound (first w .size) (first w) = subst (λ (k : ℕ). Sound k (first w)) (omega arith) (l .sound .0) in
     record {
       row1 = eqb-true _ _ (rw only at (t .apart1));
       row2 = eqb-true _ _ (rw only at (t .apart2));
       rows = leb-true _ _ (and-left (leb (getD w 4 0) (getD w 2 0)) true (rw only at (t .crossed)));
       within = last-within (first w) (rw only at (t .within1));
       thousand = units-within (first w) (rw only at (t .thousand));
-      full = λ c u. rw only (at-stage-one (first w) c u);
+      full-accepts = λ c u. rw (only, at-stage-one s c u) (accepts-if s (s .size) sound (l .last) c u);
+      full-rejects = λ c u. rw (only, at-stage-one s c u) (rejects-if s (s .size) sound (l .last) c u);
+      full-goes-on = λ c u. rw (only, at-stage-one s c u) (goes-on-if s (s .size) sound (l .last) c u);
       past = λ c u. rw only (past-one (first w) c u);
     }

@@ -1,19 +1,20 @@
 -- Answers in order, Reject below GoOn below Accept, and what keeps the order: a better sample has no worse answer.
 -- Assumes nothing.
-use Prim.Native.Nat.{ℕ, _≤_, _<_}
-use mathlib.Core.Path.{_≡_, refl}
-use mathlib.Core.Logic.{_⊎_, inl, inr}
-use mathlib.Core.Bool.{Bool, true, false, cond, _&&_, _||_, or-true}
+use Prim.Native.Nat.{ℕ, _≤_}
+use mathlib.Core.Path.{_≡_, refl, ap₂}
+use mathlib.Core.Logic.{_⊎_}
+use mathlib.Core.Bool.{true, false}
 use native.Mathlib.Omega.{arith}
-use lib.Dec.{leb}
-use borrow.Author.Tests.{leb-true, le-leb, lt-leb}
 use Rattle.plan.specs.declared.counts.Counts.{Counts}
 use Rattle.plan.specs.declared.stage.Answer.{Answer}
 use Rattle.plan.specs.declared.stage.Answer.the-variants.{GoOn, Accept, Reject}
 use Rattle.plan.specs.Plan.{Stage}
 use Rattle.plan.specs.Counts.{nongood}
-use Rattle.plan.specs.Stopping.{or-else, rejects, accepts, at-end, only-reject, settled}
+use Rattle.plan.specs.Stopping.{or-else, rejects, accepts, decide, at-end, only-reject, settled}
 use Rattle.plan.specs.Promise.{rank}
+use Rattle.plan.proofs.Answers.{accept-stops, reject-stops}
+use Rattle.plan.proofs.Decide.{decided-reject, decided-accept, decided-on, when-reject, decide-mono, not-accept, not-reject}
+use Rattle.plan.proofs.StageTests.{rejects-from, rejects-reaches, rejects-same, more-rejected, fewer-accepted}
 
 pub top : (a : Answer) → 2 ≤ rank a → a ≡ Accept
 top Accept h = refl
@@ -52,11 +53,11 @@ undecided GoOn GoOn h k = refl
 undecided GoOn Accept h k = refl
 
 pub undecided-ranks : (worst best : Answer) → settled worst best ≡ GoOn → (rank worst ≤ 1) × (1 ≤ rank best)
-undecided-ranks Accept best e = absurd (let z : _≡_ {A = ℕ} 0 1 = cc in omega arith)
-undecided-ranks Reject Reject e = absurd (let z : _≡_ {A = ℕ} 0 1 = cc in omega arith)
+undecided-ranks Accept best e = absurd (accept-stops e)
+undecided-ranks Reject Reject e = absurd (reject-stops e)
 undecided-ranks Reject GoOn e = omega arith
 undecided-ranks Reject Accept e = omega arith
-undecided-ranks GoOn Reject e = absurd (let z : _≡_ {A = ℕ} 0 1 = cc in omega arith)
+undecided-ranks GoOn Reject e = absurd (reject-stops e)
 undecided-ranks GoOn GoOn e = omega arith
 undecided-ranks GoOn Accept e = omega arith
 
@@ -104,55 +105,40 @@ settled-past Reject a b e = (e, cc)
 
 -- ---- at a stage's end
 
--- one Boolean implies another
-pub or-mono : (a b c d : Bool) → (a ≡ true → c ≡ true) → (b ≡ true → d ≡ true) → a || b ≡ true → c || d ≡ true
-or-mono true b true d f g e = refl
-or-mono true b false d f g e = cc (f refl)
-or-mono false b true d f g e = refl
-or-mono false b false d f g e = g e
-
-pub and-mono : (a b c d : Bool) → (a ≡ true → c ≡ true) → (b ≡ true → d ≡ true) → a && b ≡ true → c && d ≡ true
-and-mono true b true d f g e = g e
-and-mono true b false d f g e = f refl
-and-mono false b c d f g e = cc
-
-cond-mono : (r a r′ a′ : Bool) → (r′ ≡ true → r ≡ true) → (a ≡ true → a′ ≡ true)
-    → rank (cond r Reject (cond a Accept GoOn)) ≤ rank (cond r′ Reject (cond a′ Accept GoOn))
-cond-mono true a r′ a′ f g = omega arith
-cond-mono false a true a′ f g = absurd (let z : _≡_ {A = ℕ} 0 1 = cc (f refl) in omega arith)
-cond-mono false true false true f g = omega arith
-cond-mono false true false false f g = absurd (let z : _≡_ {A = ℕ} 0 1 = cc (g refl) in omega arith)
-cond-mono false false false true f g = omega arith
-cond-mono false false false false f g = omega arith
-
-pub leb-mono : (a b c d : ℕ) → (a ≤ b → c ≤ d) → leb a b ≡ true → leb c d ≡ true
-leb-mono a b c d f e = le-leb c d (f (leb-true a b e))
-
 -- c has no more bad units and no more nongood ones
 pub record Better (c d : Counts) : Type 0 where
   pub bad : c .bad ≤ d .bad
   pub nongood : nongood c ≤ nongood d
 
 pub at-end-mono : (s : Stage) (c d : Counts) → Better c d → rank (at-end s d) ≤ rank (at-end s c)
-at-end-mono s c d h =
-    cond-mono (rejects s d) (accepts s (d .bad) (nongood d)) (rejects s c) (accepts s (c .bad) (nongood c))
-    (or-mono _ _ _ _ (leb-mono (s .reject2) (c .bad) (s .reject2) (d .bad) (omega arith)) (leb-mono (s .reject1) (nongood c) (s .reject1) (nongood d) (omega arith)))
-    (and-mono _ _ _ _ (leb-mono (d .bad) (s .accept2) (c .bad) (s .accept2) (omega arith)) (leb-mono (nongood d) (s .accept1) (nongood c) (s .accept1) (omega arith)))
+unfolding at-end
+at-end-mono s c d h = decide-mono _ _ _ _ (more-rejected s c d (h .bad) (h .nongood)) (fewer-accepted s _ _ _ _ (h .bad) (h .nongood))
 
-cond-not-accept : (r : Bool) → rank (cond r Reject GoOn) ≤ 1
-cond-not-accept true = omega arith
-cond-not-accept false = omega arith
+pub end-same : (s : Stage) (c d : Counts) → d .bad ≡ c .bad → nongood d ≡ nongood c → at-end s d ≡ at-end s c
+unfolding at-end
+end-same s c d e f = ap₂ decide (rejects-same s c d e f) (ap₂ (accepts s) e f)
 
-cond-not-reject : (a : Bool) → 1 ≤ rank (cond a Accept GoOn)
-cond-not-reject true = omega arith
-cond-not-reject false = omega arith
+module _ (s : Stage) (c : Counts) where
+  pub not-accepted : accepts s (c .bad) (nongood c) ≡ false → rank (at-end s c) ≤ 1
+  unfolding at-end
+  not-accepted e = not-accept _ _ e
 
-pub not-accepted : (s : Stage) (c : Counts) → s .accept2 < c .bad → rank (at-end s c) ≤ 1
-not-accepted s c h = simp (lt-leb (c .bad) (s .accept2) h) (cond-not-accept (rejects s c))
+  pub not-rejected : rejects s c ≡ false → 1 ≤ rank (at-end s c)
+  unfolding at-end
+  not-rejected e = not-reject _ _ e
 
-pub not-rejected : (s : Stage) (c : Counts) → c .bad < s .reject2 → nongood c < s .reject1 → 1 ≤ rank (at-end s c)
-not-rejected s c h k = simp (lt-leb (s .reject2) (c .bad) h, lt-leb (s .reject1) (nongood c) k) (cond-not-reject (accepts s (c .bad) (nongood c)))
+  pub rejected : (s .reject1 ≤ nongood c) ⊎ (s .reject2 ≤ c .bad) → at-end s c ≡ Reject
+  unfolding at-end
+  rejected h = decided-reject _ _ (rejects-from s c h)
 
-pub rejected : (s : Stage) (c : Counts) → (s .reject1 ≤ nongood c) ⊎ (s .reject2 ≤ c .bad) → at-end s c ≡ Reject
-rejected s c (inl h) = simp (le-leb (s .reject1) (nongood c) h, or-true)
-rejected s c (inr h) = simp (le-leb (s .reject2) (c .bad) h)
+  pub reached : at-end s c ≡ Reject → (s .reject1 ≤ nongood c) ⊎ (s .reject2 ≤ c .bad)
+  unfolding at-end
+  reached e = rejects-reaches s c (when-reject _ _ e)
+
+  pub accepted : rejects s c ≡ false → accepts s (c .bad) (nongood c) ≡ true → at-end s c ≡ Accept
+  unfolding at-end
+  accepted e f = decided-accept _ _ e f
+
+  pub neither : rejects s c ≡ false → accepts s (c .bad) (nongood c) ≡ false → at-end s c ≡ GoOn
+  unfolding at-end
+  neither e f = decided-on _ _ e f

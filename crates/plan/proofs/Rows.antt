@@ -8,6 +8,19 @@ use lib.Dec.{leb, ltb}
 use Rattle.plan.specs.Plan.{Stage, total, each, never-falls, last-step-rises, apart, below-ends, last, last-reject1, row-rules, rules}
 use Rattle.plan.specs.Row.{row-step, row-end}
 
+-- the four rows
+abbrev pub a1 : Stage → ℕ
+a1 s = s .accept1
+
+abbrev pub r1 : Stage → ℕ
+r1 s = s .reject1
+
+abbrev pub a2 : Stage → ℕ
+a2 s = s .accept2
+
+abbrev pub r2 : Stage → ℕ
+r2 s = s .reject2
+
 -- no stage is left
 abbrev pub none-left : List Stage → Bool
 none-left [] = true
@@ -36,18 +49,6 @@ all-sorted true N S L true P true Q false M k K = simp and-false
 all-sorted true N S L true P false Q m M k K = simp and-false
 all-sorted true N S L false P q Q m M k K = simp and-false
 all-sorted false N S L p P q Q m M k K = refl
-
-abbrev a1 : Stage → ℕ
-a1 s = s .accept1
-
-abbrev r1 : Stage → ℕ
-r1 s = s .reject1
-
-abbrev a2 : Stage → ℕ
-a2 s = s .accept2
-
-abbrev r2 : Stage → ℕ
-r2 s = s .reject2
 
 module _ (before : ℕ) (s t : Stage) (rest : List Stage) where
   abbrev end : ℕ

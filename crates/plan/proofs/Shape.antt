@@ -13,13 +13,8 @@ use borrow.Author.Tests.{leb-true, eqb-true}
 use Rattle.plan.specs.Plan.{Stage, stages, first, total, last, last-reject1, last-reject2, admitted}
 use Rattle.plan.specs.Promise.{Shape}
 use Rattle.plan.proofs.Ends.{Each, each-map}
+use Rattle.plan.proofs.Rows.{r1, r2}
 use Rattle.plan.proofs.Limits.{all-stages, tests, Sound, limits}
-
-abbrev r1 : Stage → ℕ
-r1 s = s .reject1
-
-abbrev r2 : Stage → ℕ
-r2 s = s .reject2
 
 -- what holds of a row at each stage holds at the last
 last-of : (row : Stage → ℕ) (Q : ℕ → Type 0) (before : ℕ) (p : List Stage) → 1 ≤ length p → Each (λ end s. Q (row s)) before p → Q (last row p)
@@ -32,7 +27,7 @@ lasts row row′ before [] e = omega arith
 lasts row row′ before (s ∷ []) e = leb-true _ _ (e .0)
 lasts row row′ before (s ∷ t ∷ rest) e = lasts row row′ (before + s .size) (t ∷ rest) (e .1)
 
-some-units : (before : ℕ) (p : List Stage) → 1 ≤ length p → Each (λ end s. Sound s) before p → 1 ≤ total p
+some-units : (before : ℕ) (p : List Stage) → 1 ≤ length p → Each Sound before p → 1 ≤ total p
 unfolding total
 some-units before [] n e = absurd (omega arith)
 some-units before (s ∷ rest) n e = omega (arith, e .0 .size)
@@ -80,9 +75,9 @@ shape w e =
       seven-stages = leb-true (length p) 7 (t .seven-stages);
       some-unit = some-units 0 p (l .some-stage) (l .sound);
       thousand-units = omega (arith, leb-true (0 + total p) 1000 (t .thousand));
-      reject1-from = last-of r1 (λ n. 1 ≤ n) 0 p (l .some-stage) (each-map _ _ (λ end s a. omega (arith, a .row1)) 0 p (l .sound));
+      reject1-from = last-of r1 (λ n. 1 ≤ n) 0 p (l .some-stage) (each-map _ _ (λ end s a. a .reject1) 0 p (l .sound));
       reject1-to = leb-true (last r1 p) 60 (t .sixty);
-      reject2-from = last-of r2 (λ n. 1 ≤ n) 0 p (l .some-stage) (each-map _ _ (λ end s a. omega (arith, a .row2)) 0 p (l .sound));
+      reject2-from = last-of r2 (λ n. 1 ≤ n) 0 p (l .some-stage) (each-map _ _ (λ end s a. a .reject2) 0 p (l .sound));
       reject2-to = lasts r2 r1 0 p (all-stages _ 0 p (t .crossed));
       reject1-at = last-at r1 2 (omega arith) (λ v. refl) w whole (l .some-stage) ∙ ap (λ (i : ℕ). getD w i 0) (omega arith);
       reject2-at = last-at r2 4 (omega arith) (λ v. refl) w whole (l .some-stage) ∙ ap (λ (i : ℕ). getD w i 0) (omega arith);

@@ -2,15 +2,15 @@
 -- Assumes nothing.
 use Prim.Native.Nat.{ℕ, _+_, _-_, _≤_, _<_}
 use mathlib.Core.Path.{_≡_, refl, sym, ap, ap₂, _∙_}
-use mathlib.Core.Logic.{_≢_, inl, inr}
-use mathlib.Core.Bool.{Bool, true, false, cond, _&&_, _||_}
+use mathlib.Core.Logic.{_≢_}
+use mathlib.Core.Bool.{Bool, true, false, cond}
 use mathlib.Core.List.{List, [], _∷_}
 use native.Mathlib.Omega.{arith}
 use native.Mathlib.Decide.{decLt}
 use lib.ListN.{length, take}
 use lib.Seq.{length-take-le, take-take}
-use lib.Dec.{leb, eqb}
-use borrow.Author.Tests.{leb-true, le-leb, lt-leb, eqb-true, eq-eqb}
+use lib.Dec.{eqb}
+use borrow.Author.Tests.{eqb-true, eq-eqb}
 use Rattle.plan.specs.declared.counts.Counts.{Counts}
 use Rattle.plan.specs.declared.stage.Answer.{Answer}
 use Rattle.plan.specs.declared.stage.Answer.the-variants.{GoOn, Accept, Reject}
@@ -18,54 +18,39 @@ use Rattle.plan.specs.declared.ways.StageWay.{StageWay}
 use Rattle.plan.specs.declared.ways.StageWay.the-variants.{Uncurtailed, Semi, Full}
 use Rattle.plan.specs.Plan.{Stage, total}
 use Rattle.plan.specs.Counts.{units, nongood, nonbad, counts}
-use Rattle.plan.specs.Stopping.{or-else, rejects, accepts, at-end, uncurtailed-at, semi-at, full-at, at-stage, current, staged, first-answer}
+use Rattle.plan.specs.Stopping.{or-else, rejects, accepts, decide, at-end, uncurtailed-at, semi-at, full-at, at-stage, current, staged, first-answer}
 use Rattle.plan.specs.Sample.{verdict, All-have, Stops}
-use Rattle.plan.specs.Promise.{staged-rule}
-use Rattle.plan.proofs.Bools.{and-left, and-right}
-use Rattle.plan.proofs.Order.{rejected}
-use Rattle.plan.proofs.Units.{More, more-taken, units-taken}
+use Rattle.plan.specs.Promise.{staged-rule, More}
+use Rattle.plan.proofs.Answers.{reject-stops}
+use Rattle.plan.proofs.Decide.{decided-reject, decided-accept, decided-on}
+use Rattle.plan.proofs.StageTests.{rejects-reaches, more-rejected, fewer-accepted}
+use Rattle.plan.proofs.Order.{end-same, rejected, accepted}
+use Rattle.plan.proofs.Units.{more-taken, units-taken}
 use Rattle.plan.proofs.Ends.{Each, or-else-first, current-here, current-later, current-past}
 use Rattle.plan.proofs.Limits.{Sound, Limits}
 
 -- ---- at one stage
 
--- a test of two, taken apart
-or-cases : (a b : Bool) (P : Type 0) → a || b ≡ true → (a ≡ true → P) → (b ≡ true → P) → P
-or-cases true b P e f g = f refl
-or-cases false b P e f g = g e
-
 module _ (s : Stage) where
   -- rejection stays: more units are rejected at the end
   rejects-on : (n : ℕ) (c d : Counts) → More n c d → rejects s c ≡ true → at-end s d ≡ Reject
-  rejects-on n c d m e =
-      or-cases (leb (s .reject2) (c .bad)) (leb (s .reject1) (nongood c)) (at-end s d ≡ Reject) e
-      (λ f. rejected s d (inr (omega (arith, leb-true (s .reject2) (c .bad) f))))
-      (λ f. rejected s d (inl (omega (arith, leb-true (s .reject1) (nongood c) f))))
+  rejects-on n c d m e = rejected s d (rejects-reaches s d (more-rejected s c d (m .bad-from) (m .nongood-from) e))
 
-  -- acceptance numbers stand below rejection numbers
-  module _ (a1 : s .accept1 < s .reject1) (a2 : s .accept2 < s .reject2) where
-    accepted : (d : Counts) → d .bad ≤ s .accept2 → nongood d ≤ s .accept1 → at-end s d ≡ Accept
-    accepted d h k =
-        simp (lt-leb (s .reject2) (d .bad) (omega arith), lt-leb (s .reject1) (nongood d) (omega arith), le-leb (d .bad) (s .accept2) h, le-leb (nongood d) (s .accept1) k)
-
-    accepts-on : (end : ℕ) (c d : Counts) → units c ≤ end → More (end - units c) c d → accepts s (end - nonbad c) (end - c .good) ≡ true → at-end s d ≡ Accept
-    accepts-on end c d u m e =
-        let b : end - nonbad c ≤ s .accept2 = leb-true _ _ (and-left (leb (end - nonbad c) (s .accept2)) _ e) in
-        let n : end - c .good ≤ s .accept1 = leb-true _ _ (and-right (leb (end - nonbad c) (s .accept2)) _ e) in
-        accepted d (omega arith) (omega arith)
-
-  pub end-same : (c d : Counts) → d .bad ≡ c .bad → nongood d ≡ nongood c → at-end s d ≡ at-end s c
-  end-same c d e f =
-      ap₂ (λ (b n : ℕ). cond (leb (s .reject2) b || leb (s .reject1) n) Reject (cond (leb b (s .accept2) && leb n (s .accept1)) Accept GoOn)) e f
+  -- acceptance with the units left bad stays, where it excludes rejection
+  accepts-on : ((d : Counts) → accepts s (d .bad) (nongood d) ≡ true → rejects s d ≡ false) → (end : ℕ) (c d : Counts) → units c ≤ end → More (end - units c) c d
+      → accepts s (end - nonbad c) (end - c .good) ≡ true → at-end s d ≡ Accept
+  accepts-on not-both end c d u m e =
+      let f = fewer-accepted s (end - nonbad c) (end - c .good) (d .bad) (nongood d) (omega arith) (omega arith) e in
+      accepted s d (not-both d f) f
 
   -- what a way says, with the units left it stays said at the stage's end
-  module _ (a1 : s .accept1 < s .reject1) (a2 : s .accept2 < s .reject2) (end : ℕ) (c d : Counts) (u : units c ≤ end) (m : More (end - units c) c d)
+  module _ (not-both : (d : Counts) → accepts s (d .bad) (nongood d) ≡ true → rejects s d ≡ false) (end : ℕ) (c d : Counts) (u : units c ≤ end) (m : More (end - units c) c d)
       (v : Answer) (n : v ≢ GoOn) where
     uncurtailed-stays : uncurtailed-at end s c ≡ v → at-end s d ≡ v
     uncurtailed-stays = go (eqb (units c) end) refl
       where
         go : (b : Bool) → eqb (units c) end ≡ b → cond b (at-end s c) GoOn ≡ v → at-end s d ≡ v
-        go true e f = let h : units c ≡ end = eqb-true _ _ e in end-same c d (omega arith) (omega arith) ∙ f
+        go true e f = let h : units c ≡ end = eqb-true _ _ e in end-same s c d (omega arith) (omega arith) ∙ f
         go false e f = absurd (n (sym f))
 
     semi-stays : semi-at end s c ≡ v → at-end s d ≡ v
@@ -76,12 +61,13 @@ module _ (s : Stage) where
         go false e f = uncurtailed-stays f
 
     full-stays : full-at end s c ≡ v → at-end s d ≡ v
+    unfolding full-at
     full-stays = go (rejects s c) (accepts s (end - nonbad c) (end - c .good)) refl refl
       where
-        go : (r a : Bool) → rejects s c ≡ r → accepts s (end - nonbad c) (end - c .good) ≡ a → cond r Reject (cond a Accept GoOn) ≡ v → at-end s d ≡ v
-        go true a e g f = rejects-on _ c d m e ∙ f
-        go false true e g f = accepts-on a1 a2 end c d u m g ∙ f
-        go false false e g f = absurd (n (sym f))
+        go : (r a : Bool) → rejects s c ≡ r → accepts s (end - nonbad c) (end - c .good) ≡ a → decide r a ≡ v → at-end s d ≡ v
+        go true a e g f = rejects-on _ c d m e ∙ sym (decided-reject true a refl) ∙ f
+        go false true e g f = accepts-on not-both end c d u m g ∙ sym (decided-accept false true refl refl) ∙ f
+        go false false e g f = absurd (n (sym f ∙ decided-on false false refl refl))
 
     stays : (way : StageWay) → at-stage way end s c ≡ v → at-end s d ≡ v
     stays Uncurtailed = uncurtailed-stays
@@ -94,11 +80,12 @@ module _ (s : Stage) where
     semi-goes-on = go (rejects s c)
       where
         go : (b : Bool) → cond b Reject (uncurtailed-at end s c) ≡ GoOn → uncurtailed-at end s c ≡ GoOn
-        go true e = absurd (let z : _≡_ {A = ℕ} 0 1 = cc in omega arith)
+        go true e = absurd (reject-stops e)
         go false e = e
 
     full-is : full-at end s c ≡ at-end s c
-    full-is = ap₂ (λ (b n : ℕ). cond (rejects s c) Reject (cond (accepts s b n) Accept GoOn)) b n
+    unfolding full-at at-end
+    full-is = ap (decide (rejects s c)) (ap₂ (accepts s) b n)
       where
         b : end - nonbad c ≡ c .bad
         b = omega arith
@@ -118,7 +105,7 @@ module _ (s : Stage) where
 
 module _ (way : StageWay) (x X : List ℕ) (y : ℕ) (w : y ≤ length x) (agree : (z : ℕ) → z ≤ y → take z X ≡ take z x) (v : Answer) (n : v ≢ GoOn) where
   -- where the way stops after y units of x, the sample X, which agrees with x so far, has that verdict
-  sound-from : (before : ℕ) (p : List Stage) → Each (λ end s. Sound s) before p → before + total p ≤ length X
+  sound-from : (before : ℕ) (p : List Stage) → Each Sound before p → before + total p ≤ length X
       → ((z : ℕ) → before < z → z < y → current (at-stage way) before p (counts (take z x)) ≡ GoOn)
       → current (at-stage way) before p (counts (take y x)) ≡ v
       → first-answer (λ end s. at-end s (counts (take end X))) before p ≡ v
@@ -137,7 +124,7 @@ module _ (way : StageWay) (x X : List ℕ) (y : ℕ) (w : y ≤ length x) (agree
           = rw u (rw (agree y (omega arith)) at (more-taken X y (before + s .size) (omega arith) (omega arith))) in
           let here = sym (current-here (at-stage way) before s rest (counts (take y x)) (omega arith)) ∙ e in
           ap (λ (a : Answer). or-else a (first-answer (λ end s. at-end s (counts (take end X))) (before + s .size) rest))
-          (stays s (k .0 .row1) (k .0 .row2) (before + s .size) (counts (take y x)) (counts (take (before + s .size) X)) (omega arith) more v n way here)
+          (stays s (k .0 .not-both) (before + s .size) (counts (take y x)) (counts (take (before + s .size) X)) (omega arith) more v n way here)
           ∙ or-else-first v _ n
       go (yes m) later =
           let u = units-taken x (before + s .size) (omega arith) in

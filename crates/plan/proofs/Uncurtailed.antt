@@ -81,7 +81,7 @@ module _ (x : List ℕ) where
             let end : z ≡ before + s .size = omega arith in
             rw end (at-first before s rest (counts (take (before + s .size) x)) (counted (before + s .size) w) ∙ e)
 
-  stop : (before : ℕ) (p : List Stage) → Each (λ end s. Sound s) before p → before + total p ≤ length x
+  stop : (before : ℕ) (p : List Stage) → Each Sound before p → before + total p ≤ length x
       → answer before p ≢ GoOn → Stop before p (answer before p)
   unfolding total
   stop before [] sound w d = absurd (d refl)

@@ -9,7 +9,8 @@ use native.Mathlib.Omega.{arith}
 use lib.ListN.{length, take, drop, replicate, take-append-drop, length-drop}
 use lib.Seq.{length-take-le, take-take}
 use Rattle.plan.specs.declared.counts.Counts.{Counts}
-use Rattle.plan.specs.Counts.{nongood, units, no-units, add-units, counts-after, counts}
+use Rattle.plan.specs.Counts.{units, no-units, add-units, counts-after, counts}
+use Rattle.plan.specs.Promise.{More}
 
 -- ---- units of one class
 
@@ -27,14 +28,6 @@ add-marginal zero n c f g = absurd (f refl)
 add-marginal (suc zero) n c f g = refl
 add-marginal (suc (suc zero)) n c f g = absurd (g refl)
 add-marginal (suc (suc (suc x))) n c f g = refl
-
--- d is c and n units more
-pub record More (n : ℕ) (c d : Counts) : Type 0 where
-  pub units : units d ≡ units c + n
-  pub bad-from : c .bad ≤ d .bad
-  pub bad-to : d .bad ≤ c .bad + n
-  pub nongood-from : nongood c ≤ nongood d
-  pub nongood-to : nongood d ≤ nongood c + n
 
 pub added : (x n : ℕ) (c : Counts) → More n c (add-units x n c)
 unfolding add-units

@@ -2,7 +2,7 @@
 -- A history is decided by S units, and the empty one is not.
 -- Assumes nothing.
 use Prim.Native.Nat.{ℕ, zero, suc, _-_, _≤_, _<_}
-use mathlib.Core.Path.{_≡_, refl, sym, ap, _∙_}
+use mathlib.Core.Path.{_≡_, refl, sym, ap, ap₂, _∙_}
 use mathlib.Core.Logic.{_↔_, _≢_}
 use mathlib.Core.List.{List, [], _∷_, _++_}
 use native.Mathlib.Omega.{arith}
@@ -13,11 +13,12 @@ use Rattle.plan.specs.declared.stage.Answer.{Answer}
 use Rattle.plan.specs.declared.stage.Answer.the-variants.{GoOn, Accept, Reject}
 use Rattle.plan.specs.Plan.{Stage, total}
 use Rattle.plan.specs.Counts.{units, no-units, add-units, counts}
-use Rattle.plan.specs.Stopping.{at-filled, completed, earliest}
+use Rattle.plan.specs.Stopping.{accepts, at-filled, completed, earliest}
 use Rattle.plan.specs.Sample.{highest-class, Classes, verdict, Completion, All-have}
 use Rattle.plan.specs.Promise.{History, rank}
 use Rattle.plan.proofs.Order.{top, bottom, accepts-worst, rejects-best, undecided, not-accepted, not-rejected}
 use Rattle.plan.proofs.Sample.{classes-append, classes-replicate, classes-take}
+use Rattle.plan.proofs.StageTests.{not-rejects-below}
 use Rattle.plan.proofs.Ends.{Each, first-mono, first-same, first-on, end-case}
 use Rattle.plan.proofs.Limits.{Sound, Limits, decides}
 use Rattle.plan.proofs.Prefix.{Ended, ended, worst, best, reached}
@@ -115,17 +116,19 @@ module _ (p : List Stage) (l : Limits p) where
 
   -- ---- the empty history is undecided
 
-  worst-empty : (end : ℕ) (s : Stage) → s .accept2 < end → rank (at-filled 2 no-units end s) ≤ rank GoOn
+  worst-empty : (end : ℕ) (s : Stage) → Sound end s → rank (at-filled 2 no-units end s) ≤ rank GoOn
   unfolding add-units
-  worst-empty end s m = end-case 2 no-units end s (λ a. rank a ≤ 1) (λ n. omega arith) (λ n. not-accepted s (add-units 2 (end - units no-units) no-units) (omega arith))
+  worst-empty end s m = end-case 2 no-units end s (λ a. rank a ≤ 1) (λ n. omega arith)
+      (λ n. not-accepted s (add-units 2 (end - units no-units) no-units) (ap₂ (accepts s) (omega arith) (omega arith) ∙ m .not-all-bad))
 
-  best-empty : (end : ℕ) (s : Stage) → Sound s → rank GoOn ≤ rank (at-filled 0 no-units end s)
+  best-empty : (end : ℕ) (s : Stage) → Sound end s → rank GoOn ≤ rank (at-filled 0 no-units end s)
   unfolding add-units
-  best-empty end s m = end-case 0 no-units end s (λ a. 1 ≤ rank a) (λ n. omega arith) (λ n. not-rejected s (add-units 0 (end - units no-units) no-units) (omega (arith, m .row2)) (omega (arith, m .row1)))
+  best-empty end s m = end-case 0 no-units end s (λ a. 1 ≤ rank a) (λ n. omega arith)
+      (λ n. not-rejected s (add-units 0 (end - units no-units) no-units) (not-rejects-below s _ (omega (arith, m .reject2)) (omega (arith, m .reject1))))
 
   pub empty : earliest p no-units ≡ GoOn
   unfolding earliest
   empty =
       undecided (completed 2 0 p no-units) (completed 0 0 p no-units)
-      (omega (arith, first-mono (λ end s. s .accept2 < end) (at-filled 2 no-units) (λ end s. GoOn) worst-empty 0 p (l .below2), ap rank (first-on 0 p)))
-      (omega (arith, first-mono (λ end s. Sound s) (λ end s. GoOn) (at-filled 0 no-units) best-empty 0 p (l .sound), ap rank (first-on 0 p)))
+      (omega (arith, first-mono Sound (at-filled 2 no-units) (λ end s. GoOn) worst-empty 0 p (l .sound), ap rank (first-on 0 p)))
+      (omega (arith, first-mono Sound (λ end s. GoOn) (at-filled 0 no-units) best-empty 0 p (l .sound), ap rank (first-on 0 p)))

@@ -11,48 +11,48 @@ use lib.Dec.{eqb}
 use borrow.Author.Tests.{eqb-true, eq-eqb}
 use Rattle.plan.specs.declared.counts.Counts.{Counts}
 use Rattle.plan.specs.declared.stage.Answer.{Answer}
-use Rattle.plan.specs.declared.stage.Answer.the-variants.{GoOn, Accept, Reject}
+use Rattle.plan.specs.declared.stage.Answer.the-variants.{GoOn, Reject}
 use Rattle.plan.specs.declared.ways.StageWay.{StageWay}
 use Rattle.plan.specs.declared.ways.StageWay.the-variants.{Uncurtailed, Semi, Full}
 use Rattle.plan.specs.declared.ways.Way.{Way}
 use Rattle.plan.specs.declared.ways.Way.the-variants.{Staged, Earliest}
 use Rattle.plan.specs.Plan.{Stage, End}
-use Rattle.plan.specs.Counts.{units, nongood, nonbad, counts-after}
-use Rattle.plan.specs.Stopping.{rejects, accepts, at-end, uncurtailed-at, at-stage, current, staged, answer}
-use Rattle.plan.specs.Promise.{Same-stage}
-use Rattle.plan.proofs.Order.{or-mono, and-mono, leb-mono}
-use Rattle.plan.proofs.Units.{More, more}
+use Rattle.plan.specs.Counts.{units, nonbad, counts-after}
+use Rattle.plan.specs.Stopping.{rejects, accepts, decide, at-end, uncurtailed-at, full-at, at-stage, current, staged, answer}
+use Rattle.plan.specs.Promise.{Same-stage, More}
+use Rattle.plan.proofs.Answers.{reject-stops}
+use Rattle.plan.proofs.Decide.{decided-on, when-on}
+use Rattle.plan.proofs.StageTests.{more-rejected, fewer-accepted}
+use Rattle.plan.proofs.Order.{end-same}
+use Rattle.plan.proofs.Units.{more}
 use Rattle.plan.proofs.Ends.{each-end, current-here, current-later}
-use Rattle.plan.proofs.StageWays.{end-same}
 use Rattle.plan.proofs.CountLaws.{undecided-sooner}
 
 -- ---- an answer that goes on, where the tests of another one imply its own
 
 reject-sooner : (r r′ : Bool) (a a′ : Answer) → (r ≡ true → r′ ≡ true) → (a′ ≡ GoOn → a ≡ GoOn) → cond r′ Reject a′ ≡ GoOn → cond r Reject a ≡ GoOn
-reject-sooner r true a a′ f g e = absurd (let z : _≡_ {A = ℕ} 0 1 = cc in omega arith)
+reject-sooner r true a a′ f g e = absurd (reject-stops e)
 reject-sooner true false a a′ f g e = cc (f refl)
 reject-sooner false false a a′ f g e = g e
 
-accept-sooner : (t t′ : Bool) → (t ≡ true → t′ ≡ true) → cond t′ Accept GoOn ≡ GoOn → cond t Accept GoOn ≡ GoOn
-accept-sooner t true f e = absurd (let z : _≡_ {A = ℕ} 0 1 = cc in omega arith)
-accept-sooner true false f e = cc (f refl)
-accept-sooner false false f e = refl
+decide-sooner : (r a r′ a′ : Bool) → (r ≡ true → r′ ≡ true) → (a ≡ true → a′ ≡ true) → decide r′ a′ ≡ GoOn → decide r a ≡ GoOn
+decide-sooner true a r′ a′ f g e = cc (f refl, when-on r′ a′ e .0)
+decide-sooner false true r′ a′ f g e = cc (g refl, when-on r′ a′ e .1)
+decide-sooner false false r′ a′ f g e = decided-on false false refl refl
 
 -- ---- d has n units more than c
 
 module _ (n : ℕ) (c d : Counts) (m : More n c d) where
   module _ (end : ℕ) (s : Stage) (u : units d ≤ end) where
     still-rejects : rejects s c ≡ true → rejects s d ≡ true
-    still-rejects =
-        or-mono _ _ _ _
-        (leb-mono (s .reject2) (c .bad) (s .reject2) (d .bad) (λ l. omega arith))
-        (leb-mono (s .reject1) (nongood c) (s .reject1) (nongood d) (λ l. omega arith))
+    still-rejects = more-rejected s c d (m .bad-from) (m .nongood-from)
 
     still-accepts : accepts s (end - nonbad c) (end - c .good) ≡ true → accepts s (end - nonbad d) (end - d .good) ≡ true
-    still-accepts =
-        and-mono _ _ _ _
-        (leb-mono (end - nonbad c) (s .accept2) (end - nonbad d) (s .accept2) (λ l. omega arith))
-        (leb-mono (end - c .good) (s .accept1) (end - d .good) (s .accept1) (λ l. omega arith))
+    still-accepts = fewer-accepted s _ _ _ _ (omega arith) (omega arith)
+
+    full-sooner : full-at end s d ≡ GoOn → full-at end s c ≡ GoOn
+    unfolding full-at
+    full-sooner = decide-sooner _ _ _ _ still-rejects still-accepts
 
     -- c at the stage's end has as many units as d
     uncurtailed-sooner : uncurtailed-at end s d ≡ GoOn → uncurtailed-at end s c ≡ GoOn
@@ -67,9 +67,7 @@ module _ (n : ℕ) (c d : Counts) (m : More n c d) where
     sooner : (way : StageWay) → at-stage way end s d ≡ GoOn → at-stage way end s c ≡ GoOn
     sooner Uncurtailed = uncurtailed-sooner
     sooner Semi = reject-sooner (rejects s c) (rejects s d) _ _ still-rejects uncurtailed-sooner
-    sooner Full =
-        reject-sooner (rejects s c) (rejects s d) _ _ still-rejects
-        (accept-sooner (accepts s (end - nonbad c) (end - c .good)) (accepts s (end - nonbad d) (end - d .good)) still-accepts)
+    sooner Full = full-sooner
 
   staged-sooner : (way : StageWay) (before : ℕ) (p : List Stage) → ((e : ℕ) → End before p e → units c ≤ e → units d ≤ e)
       → current (at-stage way) before p d ≡ GoOn → current (at-stage way) before p c ≡ GoOn

@@ -27,16 +27,20 @@ or-else Reject b = Reject
 
 -- ---- at one stage, which ends after `end` units
 
-abbrev pub rejects : Stage → Counts → Bool
+unfoldable pub rejects : Stage → Counts → Bool
 rejects s c = leb (s .reject2) (c .bad) || leb (s .reject1) (nongood c)
 
 -- so many bad units and so many nongood ones are within the acceptance numbers
-abbrev pub accepts : Stage → ℕ → ℕ → Bool
+unfoldable pub accepts : Stage → ℕ → ℕ → Bool
 accepts s bad nongood = leb bad (s .accept2) && leb nongood (s .accept1)
 
+-- the answer by the two tests: rejection goes first
+unfoldable pub decide : Bool → Bool → Answer
+decide rejected accepted = cond rejected Reject (cond accepted Accept GoOn)
+
 -- at the stage's end
-abbrev pub at-end : Stage → Counts → Answer
-at-end s c = cond (rejects s c) Reject (cond (accepts s (c .bad) (nongood c)) Accept GoOn)
+unfoldable pub at-end : Stage → Counts → Answer
+at-end s c = decide (rejects s c) (accepts s (c .bad) (nongood c))
 
 abbrev pub uncurtailed-at : ℕ → Stage → Counts → Answer
 uncurtailed-at end s c = cond (eqb (units c) end) (at-end s c) GoOn
@@ -45,8 +49,8 @@ abbrev pub semi-at : ℕ → Stage → Counts → Answer
 semi-at end s c = cond (rejects s c) Reject (uncurtailed-at end s c)
 
 -- 01 has nonbad ≥ end − a2 and good ≥ end − a1: the same as end − nonbad ≤ a2 and end − good ≤ a1
-abbrev pub full-at : ℕ → Stage → Counts → Answer
-full-at end s c = cond (rejects s c) Reject (cond (accepts s (end - nonbad c) (end - c .good)) Accept GoOn)
+unfoldable pub full-at : ℕ → Stage → Counts → Answer
+full-at end s c = decide (rejects s c) (accepts s (end - nonbad c) (end - c .good))
 
 -- ---- at the current stage of the units c: the first that ends after no fewer units
 

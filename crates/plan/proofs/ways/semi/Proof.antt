@@ -1,15 +1,14 @@
 -- `plan::semi` meets its contract: rejection at any unit, else the uncurtailed answer. Assumes nothing.
 use borrow.Author.Needs.{needs}
 use mathlib.Core.Path.{sym, _∙_}
-use Rattle.plan.proofs.Answers.{rejecting, going-on}
 use Rattle.plan.proofs.ways.semi.Statement.{statement}
 use Rattle.plan.proofs.ways.semi.Tie as tie
 
 returns : tie.Need-returns
-returns c = rejecting _ _ (sym (c .before .rejects .ensures) ∙ c .if1 .taken)
+returns c = rw (sym (c .before .rejects .ensures) ∙ c .if1 .taken)
 
 returns-2 : tie.Need-returns-2
-returns-2 c = c .uncurtailed .ensures ∙ going-on _ _ (sym (c .before .before .rejects .ensures) ∙ c .before .if1 .left)
+returns-2 c = rw (sym (c .before .before .rejects .ensures) ∙ c .before .if1 .left) (c .uncurtailed .ensures)
 
 pub semi-spec : {M : Type 1} → statement M
 semi-spec = tie.close (tie.spec (λ c κs. search needs) returns (λ c κs. search needs) returns-2)
