@@ -18,6 +18,7 @@ use Rattle.plan.specs.declared.ways.Way.{Way}
 use Rattle.plan.specs.Plan.{stages, total, admitted}
 use Rattle.plan.specs.Counts.{units, add-units}
 use Rattle.plan.specs.Stopping.{answer}
+use Rattle.plan.proofs.Answers.{accept-stops, reject-stops}
 use Rattle.plan.proofs.Promise.{promise, counting}
 use Rattle.judge.specs.Judge.{no-stop, stop-here, first-stop, are-classes}
 
@@ -50,8 +51,8 @@ stop-within w e way c (x ∷ xs) = go (answer way (stages w) (add-units x 1 c)) 
     go : (a : Answer) → answer way (stages w) (add-units x 1 c) ≡ a → units (first-stop (answer way (stages w)) (add-units x 1 c) xs .counts) ≤ total (stages w)
         → units (stop-here (add-units x 1 c) a (first-stop (answer way (stages w)) (add-units x 1 c) xs) .counts) ≤ total (stages w)
     go GoOn f later = later
-    go Accept f later = here Accept f (λ g. let z : _≡_ {A = ℕ} 0 1 = cc in omega arith) (decLt _ _)
-    go Reject f later = here Reject f (λ g. let z : _≡_ {A = ℕ} 0 1 = cc in omega arith) (decLt _ _)
+    go Accept f later = here Accept f accept-stops (decLt _ _)
+    go Reject f later = here Reject f reject-stops (decLt _ _)
 
 -- ---- the greatest class so far, and the classes from i on
 

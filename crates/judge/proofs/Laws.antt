@@ -2,7 +2,7 @@
 use Prim.Native.Nat.{ℕ, _+_, _-_, _≤_, _<_}
 use native.Mathlib.Omega.{arith}
 use native.Mathlib.Decide.{decLt}
-use mathlib.Core.Path.{_≡_, refl, ap, sym, _∙_}
+use mathlib.Core.Path.{_≡_, refl, ap, sym, subst, _∙_}
 use mathlib.Core.Logic.{_↔_, _≢_, _⊎_, inl, inr}
 use mathlib.Core.Bool.{Bool, true, false, and-eq-true-iff}
 use mathlib.Core.List.{List, [], _∷_}
@@ -19,10 +19,11 @@ use Rattle.plan.specs.declared.ways.Way.{Way}
 use Rattle.plan.specs.declared.ways.Way.the-variants.{Staged, Earliest}
 use Rattle.plan.specs.Plan.{stages, admitted}
 use Rattle.plan.specs.Counts.{units, no-units, add-units, counts}
-use Rattle.plan.specs.Stopping.{staged, answer}
-use Rattle.plan.specs.Sample.{Classes, Stops}
+use Rattle.plan.specs.Stopping.{staged, earliest, answer}
+use Rattle.plan.specs.Sample.{Classes, Rule, Stops}
 use Rattle.plan.specs.Promise.{earliest-rule, staged-rule, One-stage}
-use Rattle.plan.proofs.Promise.{shape, one-stage, promise, counting}
+use Rattle.plan.proofs.Answers.{accept-stops, reject-stops}
+use Rattle.plan.proofs.Promise.{shape, one-stage, promise, counting, ways}
 use Rattle.plan.proofs.Refusals.{refused-exactly}
 use Rattle.judge.specs.declared.stop.Stop.{Stop}
 use Rattle.judge.specs.declared.list.Judged.{Judged}
@@ -52,13 +53,31 @@ granted-rightly plan list j = (go (admitted plan) (are-classes list) refl refl, 
     go true false e f g = let h : Refused 7 ≡ Stopped-list j = rw (e, f) at g in let z : _≡_ {A = ℕ} 0 1 = cc in absurd (omega arith)
     go true true e f g = let h : Stopped-list (judgement plan list) ≡ Stopped-list j = rw (e, f) at g in (e, f, cc)
 
+-- ---- a way as a stopping rule, by its name
+
+module _ (w : List ℕ) where
+  as-staged : (way : StageWay) → _≡_ {A = Rule} (rule-of (Staged way) w) (staged-rule way (stages w))
+  as-staged way = λ i h. ways .staged way (stages w) (counts h) i
+
+  as-earliest : _≡_ {A = Rule} (rule-of Earliest w) (earliest-rule (stages w))
+  as-earliest = λ i h. ways .earliest (stages w) (counts h) i
+
+  to-staged : (way : StageWay) (xs : List ℕ) (y : ℕ) (v : Answer) → Stops (rule-of (Staged way) w) xs y v → Stops (staged-rule way (stages w)) xs y v
+  to-staged way xs y v s = subst (λ (r : Rule). Stops r xs y v) (as-staged way) s
+
+  from-staged : (way : StageWay) (xs : List ℕ) (y : ℕ) (v : Answer) → Stops (staged-rule way (stages w)) xs y v → Stops (rule-of (Staged way) w) xs y v
+  from-staged way xs y v s = subst (λ (r : Rule). Stops r xs y v) (sym (as-staged way)) s
+
+  from-earliest : (xs : List ℕ) (y : ℕ) (v : Answer) → Stops (earliest-rule (stages w)) xs y v → Stops (rule-of Earliest w) xs y v
+  from-earliest xs y v s = subst (λ (r : Rule). Stops r xs y v) (sym as-earliest) s
+
 -- ---- stops
 
 module _ (w : List ℕ) (e : admitted w ≡ true) where
   -- no way stops before the first unit
   begins : (way : Way) → answer way (stages w) no-units ≡ GoOn
-  begins Earliest = promise w e .empty
-  begins (Staged way) = go (staged way (stages w) no-units) refl
+  begins Earliest = ways .earliest (stages w) no-units ∙ promise w e .empty
+  begins (Staged way) = ways .staged way (stages w) no-units ∙ go (staged way (stages w) no-units) refl
     where
       stop : (v : Answer) → v ≢ GoOn → staged way (stages w) no-units ≡ v → ⊥
       stop v n f =
@@ -67,12 +86,12 @@ module _ (w : List ℕ) (e : admitted w ≡ true) where
           let t = promise w e .staged-later way [] tt 0 v s in
           let none : t .0 ≡ 0 = omega (arith, t .1) in
           let there : earliest-rule (stages w) (take 0 []) ≡ v = rw none at (t .2 .there) in
-          n (sym there ∙ ap (answer Earliest (stages w)) (counting .empty) ∙ promise w e .empty)
+          n (sym there ∙ ap (earliest (stages w)) (counting .empty) ∙ promise w e .empty)
 
       go : (v : Answer) → staged way (stages w) no-units ≡ v → staged way (stages w) no-units ≡ GoOn
       go GoOn f = f
-      go Accept f = absurd (stop Accept (λ g. let z : _≡_ {A = ℕ} 0 1 = cc in omega arith) f)
-      go Reject f = absurd (stop Reject (λ g. let z : _≡_ {A = ℕ} 0 1 = cc in omega arith) f)
+      go Accept f = absurd (stop Accept accept-stops f)
+      go Reject f = absurd (stop Reject reject-stops f)
 
   module _ (way : Way) (xs : List ℕ) where
     abbrev rule : Counts → Answer
@@ -157,7 +176,9 @@ module _ (w : List ℕ) (e : admitted w ≡ true) where
 
     agree : (c : Counts) (xs : List ℕ) → first-stop (answer (Staged Full) (stages w)) c xs ≡ first-stop (answer Earliest (stages w)) c xs
     agree c [] = refl
-    agree c (x ∷ xs) = rw (promise w e .one-stage one (add-units x 1 c), agree (add-units x 1 c) xs)
+    agree c (x ∷ xs) =
+        let d : Counts = add-units x 1 c in
+        rw (ways .staged Full (stages w) d ∙ promise w e .one-stage one d ∙ sym (ways .earliest (stages w) d), agree d xs)
 
     -- full goes on after i units of the list and stops with the next one
     next-event : (xs : List ℕ) (i : ℕ) → i < length xs → staged Full (stages w) (counts (take i xs)) ≡ GoOn
@@ -191,7 +212,8 @@ module _ (w : List ℕ) (e : admitted w ≡ true) where
         let some : 0 < y = elim (decLt 0 y) [ yes k ↦ k | no k ↦ let none : y ≡ 0 = omega arith in absurd (d (sym (s .there) ∙ rw none (at-none (Staged Full) xs))) ] in
         let last : y - 1 + 1 ≡ y = omega arith in
         rw (ap (λ (t : Stop). t .counts) (stop-is (Staged Full) xs y (stop-of (Staged Full) w xs .answer) s), ← last)
-        (next-event xs (y - 1) (omega (arith, s .within)) (s .first (y - 1) (omega arith)) (stop-of (Staged Full) w xs .answer) d (rw last (s .there)))
+        (next-event xs (y - 1) (omega (arith, s .within)) (to-staged w Full xs y _ s .first (y - 1) (omega arith)) (stop-of (Staged Full) w xs .answer) d
+        (rw last (to-staged w Full xs y _ s .there)))
 
 pub stop-laws : (plan list : List ℕ) → admitted plan ≡ true → Stop-laws plan list
 stop-laws w xs e = record {
@@ -199,7 +221,7 @@ stop-laws w xs e = record {
   not-reached = λ way. not-reached w e way xs;
   within = λ way. stop-within w e way no-units xs;
   no-say = λ way. no-say w e way xs;
-  full-verdict = λ n. promise w e .staged-sound Full xs _ _ (is-stop w e (Staged Full) xs n);
+  full-verdict = λ n. promise w e .staged-sound Full xs _ _ (to-staged w Full xs _ _ (is-stop w e (Staged Full) xs n));
   one-stage = λ n. agree w e n no-units xs;
   one-event = λ n. one-event w e n xs;
 }
@@ -213,9 +235,9 @@ classes-of (x ∷ xs) e = (leb-true x 2 (and-eq-true-iff (leb x 2) _ .0 e .0), c
 pub class-laws : (plan list : List ℕ) → admitted plan ≡ true → are-classes list ≡ true → Class-laws plan list
 class-laws w xs e f = record {
   no-later = λ n.
-      let s = is-stop w e (Staged Full) xs n in
+      let s = to-staged w Full xs _ _ (is-stop w e (Staged Full) xs n) in
       let t = promise w e .staged-later Full xs c _ _ s in
-      let h = stops w e Earliest xs (t .0) _ .0 (t .2) in
+      let h = stops w e Earliest xs (t .0) _ .0 (from-earliest w xs _ _ (t .2)) in
       (omega (arith, t .1, h .0), h .1);
   same-rejection = (λ g. both Semi Full (promise w e .same-rejection xs c _ .0) g .1, λ g. both Full Semi (promise w e .same-rejection xs c _ .1) g .1);
   same-unit = λ g. sym (both Semi Full (promise w e .same-rejection xs c _ .0) g .0);
@@ -228,6 +250,6 @@ class-laws w xs e f = record {
         → stop-of (Staged a) w xs .answer ≡ Reject
         → (at (stop-of (Staged b) w xs) ≡ at (stop-of (Staged a) w xs)) × (stop-of (Staged b) w xs .answer ≡ Reject)
     both a b same g =
-        let s = stops w e (Staged a) xs (at (stop-of (Staged a) w xs)) Reject .1 (refl, g, λ h. let z : _≡_ {A = ℕ} 0 1 = cc in omega arith) in
-        let t = stops w e (Staged b) xs (at (stop-of (Staged a) w xs)) Reject .0 (same s) in
+        let s = stops w e (Staged a) xs (at (stop-of (Staged a) w xs)) Reject .1 (refl, g, reject-stops) in
+        let t = stops w e (Staged b) xs (at (stop-of (Staged a) w xs)) Reject .0 (from-staged w b xs _ _ (same (to-staged w a xs _ _ s))) in
         (t .0, t .1)

@@ -13,6 +13,7 @@ use Rattle.plan.specs.declared.counts.Counts.{Counts}
 use Rattle.plan.specs.declared.stage.Answer.{Answer}
 use Rattle.plan.specs.declared.stage.Answer.the-variants.{GoOn, Accept, Reject}
 use Rattle.plan.specs.Counts.{add-units, counts}
+use Rattle.plan.proofs.Answers.{accept-stops, reject-stops}
 use Rattle.plan.proofs.Promise.{counting}
 use Rattle.judge.specs.declared.stop.Stop.{Stop}
 use Rattle.judge.specs.Judge.{no-stop, stop-here, first-stop}
@@ -78,8 +79,8 @@ module _ (rule : Counts → Answer) (x : List ℕ) where
           ⊎ Passed i (stop-here (counts (take (i + 1) x)) a (first-stop rule (counts (take (i + 1) x)) (drop (i + 1) x)))
       go GoOn f h (inl t) = inl (stopped-later i _ f t)
       go GoOn f h (inr t) = inr (passed-later i _ f t)
-      go Accept f h t = inl (stopped-here i h Accept f (λ g. let z : _≡_ {A = ℕ} 0 1 = cc in omega arith))
-      go Reject f h t = inl (stopped-here i h Reject f (λ g. let z : _≡_ {A = ℕ} 0 1 = cc in omega arith))
+      go Accept f h t = inl (stopped-here i h Accept f accept-stops)
+      go Reject f h t = inl (stopped-here i h Reject f reject-stops)
 
   pub walked : Stopped 0 (first-stop rule (counts (take 0 x)) x) ⊎ Passed 0 (first-stop rule (counts (take 0 x)) x)
   walked = walk (length x) 0 (omega arith)

@@ -26,28 +26,19 @@ use Rattle.judge.proofs.Along.{next}
 -- the class at i, and the counts d with it
 pub count-turn : (xs : List ℕ) (i : ℕ) (c : Counts) → i < length xs → (d : Counts) → d ≡ add-units (getD xs i 0) 1 c →
     counts-after c (drop i xs) ≡ counts-after d (drop (i + 1) xs)
-count-turn xs i c h d e = rw (next xs i h, e)
-
-units-after : (c : Counts) (xs : List ℕ) → units (counts-after c xs) ≡ units c + length xs
-units-after c [] = omega arith
-units-after c (x ∷ xs) = omega (arith, units-after (add-units x 1 c) xs, counting .added x 1 c)
+count-turn xs i c h d e = rw (next xs i h, e) (counting .after-one c (getD xs i 0) (drop (i + 1) xs))
 
 -- ---- along a run and what follows it
 
 module _ (w : List ℕ) (e : admitted w ≡ true) (way : Way) where
   passes : (c : Counts) (xs ys : List ℕ) → Same-stage (stages w) (units c + 1) (units c + length xs) → answer way (stages w) (counts-after c xs) ≡ GoOn
       → first-stop (answer way (stages w)) c (xs ++ ys) ≡ first-stop (answer way (stages w)) (counts-after c xs) ys
-  passes c [] ys same on = refl
+  passes c [] ys same on = rw (counting .after-none c)
   passes c (x ∷ xs) ys same on =
       let u : units (add-units x 1 c) ≡ units c + 1 = counting .added x 1 c in
-      rw (promise w e .within-stage way (add-units x 1 c) xs (λ z m k. omega (arith, same z m (omega arith))) on)
-      (passes (add-units x 1 c) xs ys (λ z m k. omega (arith, same z m (omega arith))) on)
-
-pub accept-stops : Accept ≢ GoOn
-accept-stops e = let z : _≡_ {A = ℕ} 0 1 = cc in omega arith
-
-pub reject-stops : Reject ≢ GoOn
-reject-stops e = let z : _≡_ {A = ℕ} 0 1 = cc in omega arith
+      let at-end : answer way (stages w) (counts-after (add-units x 1 c) xs) ≡ GoOn = rw (counting .after-one c x xs) at on in
+      rw (counting .after-one c x xs, promise w e .within-stage way (add-units x 1 c) xs (λ z m k. omega (arith, same z m (omega arith))) at-end)
+      (passes (add-units x 1 c) xs ys (λ z m k. omega (arith, same z m (omega arith))) at-end)
 
 stops-here : (d : Counts) (a : Answer) (s t : Stop) → a ≢ GoOn → stop-here d a s ≡ stop-here d a t
 stops-here d GoOn s t n = absurd (n refl)
@@ -56,8 +47,9 @@ stops-here d Reject s t n = refl
 
 stops : (rule : Counts → Answer) (c : Counts) (xs ys : List ℕ) → 1 ≤ length xs → rule (counts-after c xs) ≢ GoOn → first-stop rule c xs ≡ first-stop rule c (xs ++ ys)
 stops rule c [] ys l n = absurd (omega arith)
-stops rule c (x ∷ []) ys l n = stops-here (add-units x 1 c) (rule (add-units x 1 c)) _ _ n
-stops rule c (x ∷ y ∷ xs) ys l n = ap (stop-here (add-units x 1 c) (rule (add-units x 1 c))) (stops rule (add-units x 1 c) (y ∷ xs) ys (omega arith) n)
+stops rule c (x ∷ []) ys l n = stops-here (add-units x 1 c) (rule (add-units x 1 c)) _ _ (λ g. n (rw (counting .after-one c x [], counting .after-none (add-units x 1 c)) g))
+stops rule c (x ∷ y ∷ xs) ys l n =
+    ap (stop-here (add-units x 1 c) (rule (add-units x 1 c))) (stops rule (add-units x 1 c) (y ∷ xs) ys (omega arith) (λ g. n (rw (counting .after-one c x (y ∷ xs)) g)))
 
 -- ---- the run from i to j in a list, with the counts c before it and d after it
 
@@ -77,7 +69,7 @@ module _ (xs : List ℕ) (i j : ℕ) (l : i < j) where
 
     module _ (c d : Counts) (n : units c ≡ i) (f : d ≡ counts-after c (run xs i j)) where
       pub run-units : units d ≡ j
-      run-units = ap units f ∙ omega (arith, units-after c (run xs i j), run-length)
+      run-units = ap units f ∙ omega (arith, counting .after-more c (run xs i j), run-length)
 
       module _ (w : List ℕ) (e : admitted w ≡ true) (way : Way) where
         pub run-passed : Same-stage (stages w) (i + 1) j → answer way (stages w) d ≡ GoOn

@@ -111,6 +111,6 @@ completed-past class p c l =
     first-same (λ end s. end < units c) (at-filled class c) (λ end s. GoOn) (end-past class c) 0 p (ends-past (units c) 0 p (omega arith)) ∙ first-on 0 p
 
 pub past : (p : List Stage) (way : Way) (c : Counts) → total p < units c → answer way p c ≡ GoOn
-unfolding staged earliest
+unfolding staged earliest answer
 past p (Staged way) c l = current-past (at-stage way) 0 p c (omega arith)
 past p Earliest c l = rw (completed-past 2 p c l, completed-past 0 p c l)

@@ -17,7 +17,7 @@ use Rattle.plan.specs.Counts.{units, add-units, counts}
 use Rattle.plan.specs.Stopping.{at-end, at-filled, completed, settled}
 use Rattle.plan.specs.Promise.{rank, More}
 use Rattle.plan.proofs.Order.{at-end-mono, Better, settled-past}
-use Rattle.plan.proofs.Units.{more-taken, units-counts, units-taken, counts-append, after-replicate}
+use Rattle.plan.proofs.Units.{more-taken, units-counts, units-taken, counts-append, add-none, after-replicate}
 use Rattle.plan.proofs.Ends.{Each, end-case}
 
 -- ---- more units are no worse than bad ones and no better than good ones
@@ -45,7 +45,7 @@ filled-past : (class : ℕ) (c : Counts) (end : ℕ) (s : Stage) → end ≤ uni
     → at-filled class c end s ≡ cond (ltb end (units c)) GoOn (at-end s c)
 filled-past class c end s h =
     let none : end - units c ≡ 0 = omega arith in
-    ap (λ (d : Counts). cond (ltb end (units c)) GoOn (at-end s d)) (ap (λ (n : ℕ). add-units class n c) none ∙ sym (after-replicate class 0 c))
+    ap (λ (d : Counts). cond (ltb end (units c)) GoOn (at-end s d)) (ap (λ (n : ℕ). add-units class n c) none ∙ sym (add-none class c))
 
 past : (before : ℕ) (s : Stage) (rest : List Stage) (c : Counts) → before + s .size ≤ units c → Undecided before (s ∷ rest) c
     → (cond (ltb (before + s .size) (units c)) GoOn (at-end s c) ≡ GoOn) × Undecided (before + s .size) rest c

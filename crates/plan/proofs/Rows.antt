@@ -70,7 +70,7 @@ module _ (before : ℕ) (s t : Stage) (rest : List Stage) where
       ((leb 1 (s .size) && row-step (s .accept1) (s .reject1) (t .accept1) (t .reject1) (before + s .size) (none-left rest) &&
       row-step (s .accept2) (s .reject2) (t .accept2) (t .reject2) (before + s .size) (none-left rest) &&
       leb (s .accept2) (s .accept1) && leb (s .reject2) (s .reject1)) && rules (before + s .size) (t ∷ rest))
-  unfolding rules total last-reject1
+  unfolding rules total last-reject1 each
   rules-more = rw (row-more a1 r1, row-more a2 r2, ← add-assoc before (s .size) (total (t ∷ rest)))
       (all-sorted (leb 1 (s .size)) (each (λ (u : Stage). leb 1 (u .size)) (t ∷ rest)) (leb (end + total (t ∷ rest)) 1000) (leb (last r1 (t ∷ rest)) 60)
       (step a1 r1) (row-rules a1 r1 end (t ∷ rest)) (step a2 r2) (row-rules a2 r2 end (t ∷ rest))
@@ -80,5 +80,5 @@ pub rules-one : (before : ℕ) (s : Stage) → rules before (s ∷ []) ≡
     (leb 1 (s .size) && leb (before + s .size) 1000 && leb (s .reject1) 60 &&
     row-end (s .accept1) (s .reject1) (before + s .size) && row-end (s .accept2) (s .reject2) (before + s .size) &&
     leb (s .accept2) (s .accept1) && leb (s .reject2) (s .reject1))
-unfolding rules total last-reject1
+unfolding rules total last-reject1 each
 rules-one before s = simp (and-true, add-zero)

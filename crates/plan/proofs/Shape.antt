@@ -43,7 +43,7 @@ last-only row s (t ∷ p) n = absurd (omega arith)
 -- a row whose number is word j of each stage: the last one's place
 module _ (row : Stage → ℕ) (j : ℕ) (l : j < 5) (e : (w : List ℕ) → row (first w) ≡ getD w j 0) where
   last-at : (w : List ℕ) → length w ≡ 5 * length (stages w) → 1 ≤ length (stages w) → last row (stages w) ≡ getD w (length w + j - 5) 0
-  unfolding stages
+  unfolding stages first
   last-at (x ∷ y ∷ z ∷ u ∷ v ∷ rest) whole some = go (decLt 0 (length (stages rest))) (last-at rest)
     where
       go : Dec (0 < length (stages rest)) → (length rest ≡ 5 * length (stages rest) → 1 ≤ length (stages rest) → last row (stages rest) ≡ getD rest (length rest + j - 5) 0)
@@ -63,7 +63,7 @@ module _ (row : Stage → ℕ) (j : ℕ) (l : j < 5) (e : (w : List ℕ) → row
   last-at (x ∷ y ∷ z ∷ u ∷ []) whole some = absurd (omega arith)
 
 pub shape : (w : List ℕ) → admitted w ≡ true → Shape w
-unfolding last-reject1 last-reject2
+unfolding last-reject1 last-reject2 first
 shape w e =
     let t = tests w e in
     let l = limits w e in

@@ -24,7 +24,7 @@ record Five (w : List ℕ) : Type 0 where
   next-is : first (drop 5 w) ≡ second w
 
 five : (w : List ℕ) → 5 ≤ length w → Five w
-unfolding stages
+unfolding stages first
 five (n ∷ a1 ∷ r1 ∷ a2 ∷ r2 ∷ rest) h = record { stages-are = refl; next-is = refl }
 five [] h = absurd (omega arith)
 five (a ∷ []) h = absurd (omega arith)
@@ -48,8 +48,8 @@ pub total-none : (w : List ℕ) → length w < 5 → total (stages w) ≡ 0
 unfolding total
 total-none w h = ap total (stages-none w h)
 
-pub total-more : (w : List ℕ) → 5 ≤ length w → total (stages w) ≡ first w .size + total (stages (after w))
-unfolding total
+pub total-more : (w : List ℕ) → 5 ≤ length w → total (stages w) ≡ getD w 0 0 + total (stages (after w))
+unfolding total first
 total-more w h = ap total (stages-more w h)
 
 -- what is left after the first stage
@@ -57,6 +57,7 @@ pub after-none : (w : List ℕ) → length w < 10 → stages (after w) ≡ []
 after-none w h = stages-none (after w) (omega (arith, length-after w))
 
 pub after-more : (w : List ℕ) → 10 ≤ length w → stages (after w) ≡ second w ∷ stages (after (after w))
+unfolding first
 after-more w h =
     stages-more (after w) (omega (arith, length-after w)) ∙
     ap (λ (s : Stage). s ∷ stages (after (after w))) (ap first (part-to-end w 5) ∙ five w (omega arith) .next-is)

@@ -39,6 +39,7 @@ added (suc (suc (suc x))) n c = omega arith
 -- ---- the counts of a list
 
 pub more : (c : Counts) (xs : List ℕ) → More (length xs) c (counts-after c xs)
+unfolding counts-after
 more c [] = omega arith
 more c (x ∷ xs) = let a = added x 1 c in let b = more (add-units x 1 c) xs in omega arith
 
@@ -47,6 +48,7 @@ unfolding counts
 units-counts h = omega (arith, more no-units h)
 
 pub after-append : (c : Counts) (h r : List ℕ) → counts-after c (h ++ r) ≡ counts-after (counts-after c h) r
+unfolding counts-after
 after-append c [] r = refl
 after-append c (x ∷ h) r = after-append (add-units x 1 c) h r
 
@@ -85,5 +87,6 @@ add-one-first (suc (suc zero)) n c = λ i. record { good = c .good; marginal = c
 add-one-first (suc (suc (suc x))) n c = λ i. record { good = c .good; marginal = one-first (c .marginal) n i; bad = c .bad }
 
 pub after-replicate : (x n : ℕ) (c : Counts) → counts-after c (replicate n x) ≡ add-units x n c
+unfolding counts-after
 after-replicate x zero c = add-none x c
 after-replicate x (suc n) c = after-replicate x n (add-units x 1 c) ∙ add-one-first x n c

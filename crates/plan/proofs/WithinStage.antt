@@ -88,7 +88,7 @@ module _ (n : ℕ) (c d : Counts) (m : More n c d) where
 
 pub within-stage : (p : List Stage) (way : Way) (c : Counts) (xs : List ℕ) → Same-stage p (units c) (units c + length xs)
     → answer way p (counts-after c xs) ≡ GoOn → answer way p c ≡ GoOn
-unfolding staged
+unfolding staged answer
 within-stage p (Staged way) c xs same =
     let m = more c xs in
     staged-sooner (length xs) c (counts-after c xs) m way 0 p (λ e k l. omega (arith, same e k l))

@@ -7,7 +7,7 @@ use mathlib.Core.List.{List, _∷_}
 use lib.ListN.{length, getD}
 use lib.Dec.{leb, ltb}
 use borrow.Author.Tests.{ltb-true, ltb-false, le-leb, lt-leb}
-use Rattle.plan.specs.Plan.{Stage, stages, first, total, rules}
+use Rattle.plan.specs.Plan.{Stage, stages, first, total, rules, each}
 use Rattle.plan.specs.Row.{row-step, row-end}
 use Rattle.plan.proofs.Bools.{first-false, mid-false, both-true}
 use Rattle.plan.proofs.Rows.{none-left, rules-one, rules-more}
@@ -16,7 +16,7 @@ use Rattle.plan.proofs.Stages.{after, second, stages-more, stages-none,
 -- a rule that the first stage breaks by itself
 module _ (before : ℕ) (s : Stage) (rest : List Stage) where
   no-units : s .size < 1 → rules before (s ∷ rest) ≡ false
-  unfolding rules
+  unfolding rules each
   no-units h = simp (lt-leb _ _ h)
 
   too-many : 1000 < before + s .size → rules before (s ∷ rest) ≡ false
@@ -24,24 +24,28 @@ module _ (before : ℕ) (s : Stage) (rest : List Stage) where
   too-many h = simp (lt-leb (before + total (s ∷ rest)) 1000 (omega arith), and-false)
 
   accepts-crossed : s .accept1 < s .accept2 → rules before (s ∷ rest) ≡ false
-  unfolding rules
+  unfolding rules each
   accepts-crossed h = simp (lt-leb _ _ h, and-false)
 
   rejects-crossed : s .reject1 < s .reject2 → rules before (s ∷ rest) ≡ false
-  unfolding rules
+  unfolding rules each
   rejects-crossed h = simp (lt-leb _ _ h, and-false)
 
 module _ (before : ℕ) (w : List ℕ) (whole : 5 ≤ length w) where
   pub no-units-here : getD w 0 0 < 1 → rules before (stages w) ≡ false
+  unfolding first
   no-units-here h = rw (stages-more w whole) (no-units before (first w) _ h)
 
   pub too-many-here : 1000 < before + getD w 0 0 → rules before (stages w) ≡ false
+  unfolding first
   too-many-here h = rw (stages-more w whole) (too-many before (first w) _ h)
 
   pub accepts-crossed-here : getD w 1 0 < getD w 3 0 → rules before (stages w) ≡ false
+  unfolding first
   accepts-crossed-here h = rw (stages-more w whole) (accepts-crossed before (first w) _ h)
 
   pub rejects-crossed-here : getD w 2 0 < getD w 4 0 → rules before (stages w) ≡ false
+  unfolding first
   rejects-crossed-here h = rw (stages-more w whole) (rejects-crossed before (first w) _ h)
 
 -- none of those rules is broken at the first stage
@@ -65,6 +69,7 @@ module _ (before : ℕ) (w : List ℕ) (k : Kept before w) where
 
   pub at-last : length w < 10 →
       rules before (stages w) ≡ (leb (getD w 2 0) 60 && row-end (getD w 1 0) (getD w 2 0) end && row-end (getD w 3 0) (getD w 4 0) end)
+  unfolding first
   at-last h =
       ap (rules before) (stages-more w (k .whole) ∙ ap (λ (r : List Stage). first w ∷ r) (after-none w h)) ∙
       rules-one before (first w) ∙
@@ -74,6 +79,7 @@ module _ (before : ℕ) (w : List ℕ) (k : Kept before w) where
       rules before (stages w) ≡
       ((row-step (getD w 1 0) (getD w 2 0) (getD w 6 0) (getD w 7 0) end (ltb (length w) 15) &&
       row-step (getD w 3 0) (getD w 4 0) (getD w 8 0) (getD w 9 0) end (ltb (length w) 15)) && rules end (stages (after w)))
+  unfolding first
   at-step h =
       ap (rules before) (stages-more w (k .whole) ∙ ap (λ (r : List Stage). first w ∷ r) (after-more w h)) ∙
       rules-more before (first w) (second w) (stages (after (after w))) ∙

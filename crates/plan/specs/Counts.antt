@@ -22,7 +22,7 @@ add-units (suc zero) n c = record { good = c .good; marginal = c .marginal + n; 
 add-units (suc (suc zero)) n c = record { good = c .good; marginal = c .marginal; bad = c .bad + n }
 add-units (suc (suc (suc x))) n c = record { good = c .good; marginal = c .marginal + n; bad = c .bad }
 
-abbrev pub counts-after : Counts → List ℕ → Counts
+unfoldable pub counts-after : Counts → List ℕ → Counts
 counts-after c [] = c
 counts-after c (x ∷ xs) = counts-after (add-units x 1 c) xs
 

@@ -16,7 +16,7 @@ pub record Stage : Type 0 where
   pub reject2 : ℕ
 
 -- the first stage of a run of five words or more
-abbrev pub first : List ℕ → Stage
+unfoldable pub first : List ℕ → Stage
 first w = record { size = getD w 0 0; accept1 = getD w 1 0; reject1 = getD w 2 0; accept2 = getD w 3 0; reject2 = getD w 4 0 }
 
 -- the stages of a run of words; a last stage that lacks words is none
@@ -50,7 +50,7 @@ end-from before (s ∷ rest) y = cond (ltb (before + s .size) y) (end-from (befo
 
 -- ---- the rules. A row of numbers is a function of the stage
 
-abbrev pub each : (Stage → Bool) → List Stage → Bool
+unfoldable pub each : (Stage → Bool) → List Stage → Bool
 each test [] = true
 each test (s ∷ rest) = test s && each test rest
 

@@ -97,6 +97,6 @@ earliest p c = settled (completed 2 0 p c) (completed 0 0 p c)
 
 -- ---- the four ways
 
-abbrev pub answer : Way → List Stage → Counts → Answer
+unfoldable pub answer : Way → List Stage → Counts → Answer
 answer (Staged way) p c = staged way p c
 answer Earliest p c = earliest p c

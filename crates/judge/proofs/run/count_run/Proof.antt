@@ -30,7 +30,7 @@ loop-again c =
 returns : tie.Need-returns Inv-loop μ-loop
 returns c =
     let l = c .before .loop in
-    sym (l .inv .2 ∙ ap (counts-after (l .c)) (drop-of-length-le (c .before .before .before .args .run .now) (c .loop-test .left)))
+    sym (l .inv .2 ∙ ap (counts-after (l .c)) (drop-of-length-le (c .before .before .before .args .run .now) (c .loop-test .left)) ∙ counting .after-none (l .c))
 
 pub count-run-spec : {M : Type 1} → statement M
 count-run-spec =

@@ -12,10 +12,11 @@ use Rattle.plan.specs.declared.stage.Answer.the-variants.{GoOn, Accept, Reject}
 use Rattle.plan.specs.Plan.{stages}
 use Rattle.plan.specs.Counts.{units, no-units}
 use Rattle.plan.specs.Stopping.{answer}
+use Rattle.plan.proofs.Answers.{accept-stops, reject-stops}
 use Rattle.plan.proofs.Promise.{shape}
 use Rattle.judge.specs.Judge.{first-stop, no-stop}
 use Rattle.judge.proofs.Along.{none-past}
-use Rattle.judge.proofs.Runs.{run, run-length, run-units, run-passed, run-stops, accept-stops, reject-stops}
+use Rattle.judge.proofs.Runs.{run, run-length, run-units, run-passed, run-stops}
 use Rattle.judge.proofs.stop.first_stop.Statement.{statement}
 use Rattle.judge.proofs.stop.first_stop.Tie as tie
 

@@ -2,15 +2,16 @@
 use borrow.Author.Needs.{needs}
 use borrow.Author.Tests.{le-leb, lt-leb}
 use Rattle.plan.specs.Stopping.{rejects}
+use Rattle.plan.specs.Plan.{first}
 use Rattle.plan.proofs.stage.rejects.Statement.{statement}
 use Rattle.plan.proofs.stage.rejects.Tie as tie
 
 returns : tie.Need-returns
-unfolding rejects
+unfolding rejects first
 returns c = rw (le-leb _ _ (c .if1 .taken))
 
 returns-2 : tie.Need-returns-2
-unfolding rejects
+unfolding rejects first
 returns-2 c = rw (lt-leb _ _ (c .before .before .if1 .left))
 
 pub rejects-spec : {M : Type 1} → statement M
