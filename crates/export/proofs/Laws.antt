@@ -2,7 +2,6 @@
 use mathlib.Core.Path.{refl, ap}
 use mathlib.Core.Logic.{_≢_}
 use Rattle.plan.specs.Reply.{Reply, granted, refused}
-use Rattle.plan.proofs.Refusals.{never-zero}
 use Rattle.sheetmodel.specs.declared.reply.Done.{Done}
 use Rattle.sheetmodel.specs.declared.reply.Done.the-variants as done
 use Rattle.sheetmodel.specs.declared.reply.Looked.{Looked}
@@ -13,12 +12,8 @@ use Rattle.sheetmodel.specs.declared.reply.Estimated.{Estimated}
 use Rattle.sheetmodel.specs.declared.reply.Estimated.the-variants as estimated
 use Rattle.sheetmodel.specs.Reply.{done-reply, look-reply, tally-reply, estimate-reply}
 use Rattle.sheetmodel.proofs.Demand1.{demand-1}
-use Rattle.judge.specs.declared.list.Judged.{Judged}
-use Rattle.judge.specs.declared.list.Judged.the-variants as judged
-use Rattle.judge.specs.Judge as judge
 use Rattle.judge.proofs.Laws.{refused-rightly}
 use Rattle.chance.proofs.Laws.{refusal-law}
-use Rattle.export.specs.Returned.{judge-reply}
 use Rattle.export.specs.Laws.{Zero-exactly, Zero-law}
 
 -- ---- an answer that is no refusal with the number 0
@@ -43,9 +38,9 @@ of-estimated : (t : Estimated) → t ≢ estimated.Refused 0 → Zero-exactly (e
 of-estimated (estimated.Estimate t) not = (λ e. tt, λ g. refl)
 of-estimated (estimated.Refused n) not = (λ e. not (ap estimated.Refused e), λ g. absurd g)
 
-of-judged : (j : Judged) → j ≢ judged.Refused 0 → Zero-exactly (judge-reply j)
-of-judged (judged.Stops j) not = (λ e. tt, λ g. refl)
-of-judged (judged.Refused n) not = (λ e. not (ap judged.Refused e), λ g. absurd g)
+of-reply : (r : Reply) → r ≢ refused 0 → Zero-exactly r
+of-reply (granted values) not = (λ e. tt, λ g. refl)
+of-reply (refused n) not = (λ e. not (ap refused e), λ g. absurd g)
 
 -- ---- the calls
 
@@ -59,7 +54,7 @@ zero-law = record {
   looking = λ n w. of-looked _ (demand-1 w .looking n .by-rows .never-zero);
   tallying = λ w. of-tallied _ (demand-1 w .tallying .by-rows .never-zero);
   estimating = λ n w. of-estimated _ (demand-1 w .estimating n .by-rows .never-zero);
-  judging = λ p list. of-judged (judge.judged p list) (λ e. never-zero (judge.refusals p list) refl (refused-rightly p list 0 .0 e));
+  judging = λ p list. of-reply _ (refused-rightly p list .never-zero);
   chance = λ p w n. of-reply _ (refusal-law p w n .0 .never-zero);
   charting = λ p w n. of-reply _ (refusal-law p w n .1 .never-zero);
 }

@@ -8,10 +8,10 @@ use Rattle.plan.specs.Reply.{Reply, granted, refused}
 use Rattle.sheetmodel.specs.Reply.{done-reply, look-reply, tally-reply, estimate-reply}
 use Rattle.sheetmodel.specs.Calls.{fresh, open-lot, inspect, strike, close, look, tally}
 use Rattle.sheetmodel.specs.Estimate.{estimate}
-use Rattle.judge.specs.Judge.{judged}
+use Rattle.judge.specs.Judge.{judged, judge-reply}
 use Rattle.chance.specs.declared.mean.Weights.{Weights}
 use Rattle.chance.specs.Reply.{bounds-reply, chart-reply, chance-answer, chart-answer}
-use Rattle.export.specs.Returned.{number, judge-reply}
+use Rattle.export.specs.Returned.{number}
 
 abbrev pub Granted : Reply → Type 0
 Granted (granted values) = Unit {0}

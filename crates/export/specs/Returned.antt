@@ -3,9 +3,6 @@ use Prim.Native.Nat.{ℕ}
 use mathlib.Core.List.{List}
 use lib.Ieee.{Float}
 use Rattle.plan.specs.Reply.{Reply, granted, refused}
-use Rattle.judge.specs.declared.list.Judged.{Judged}
-use Rattle.judge.specs.declared.list.Judged.the-variants as judged
-use Rattle.judge.specs.Judge.{numbers}
 
 -- 0 granted, else the refusal's number
 abbrev pub number : Reply → ℕ
@@ -16,11 +13,6 @@ number (refused n) = n
 abbrev pub left : Reply → List ℕ → List ℕ
 left (granted values) out = values
 left (refused n) out = out
-
--- stop and state of each way, and the event
-abbrev pub judge-reply : Judged → Reply
-judge-reply (judged.Stops j) = granted (numbers (judged.Stops j))
-judge-reply (judged.Refused n) = refused n
 
 -- the same of a call whose values are floats, which a Reply does not hold
 abbrev pub left-floats : Reply → List Float → List Float → List Float

@@ -5,8 +5,8 @@ ghost use mathlib.Core.Path.{_≡_};
 ghost use Prim.Native.Nat.{_≤_};
 ghost use Rattle.plan.specs.Counts.{units};
 ghost use Rattle.plan.specs.Stopping.{state};
-ghost use Rattle.judge.specs.Judge.{judged};
-ghost use Rattle.export.specs.Returned.{number, left, judge-reply};
+ghost use Rattle.judge.specs.Judge.{judged, judge-reply};
+ghost use Rattle.export.specs.Returned.{number, left};
 
 // After how many units; no way stops after 1,000.
 fn stop_of(s: Stop) -> u32

@@ -18,9 +18,11 @@ use Rattle.plan.specs.declared.ways.Way.{Way}
 use Rattle.plan.specs.Plan.{stages, total, admitted}
 use Rattle.plan.specs.Counts.{units, add-units}
 use Rattle.plan.specs.Stopping.{answer}
+use Rattle.plan.specs.Sample.{highest-class, are-classes}
 use Rattle.plan.proofs.Answers.{accept-stops, reject-stops}
 use Rattle.plan.proofs.Promise.{promise, counting}
-use Rattle.judge.specs.Judge.{no-stop, stop-here, first-stop, are-classes}
+use Rattle.plan.proofs.Sample.{classing}
+use Rattle.judge.specs.Judge.{no-stop, stop-here, first-stop}
 
 pub next : (xs : List ℕ) (i : ℕ) → i < length xs → drop i xs ≡ getD xs i 0 ∷ drop (i + 1) xs
 next xs i h = drop-cons xs i 0 h ∙ ap (λ (j : ℕ). getD xs i 0 ∷ drop j xs) (sym (add-one i))
@@ -68,8 +70,13 @@ second-adds-none true false r f = cc (f refl)
 second-adds-none false b r f = refl
 
 module _ (xs : List ℕ) (i m : ℕ) (h : i < length xs) where
-  pub class-greater : m < getD xs i 0 → (leb m 2 && are-classes (drop i xs)) ≡ (leb (getD xs i 0) 2 && are-classes (drop (i + 1) xs))
-  class-greater l = rw (next xs i h) (first-adds-none (leb m 2) (leb (getD xs i 0) 2) _ (λ e. le-leb m 2 (omega (arith, leb-true (getD xs i 0) 2 e))))
+  next-tested : are-classes (drop i xs) ≡ (leb (getD xs i 0) highest-class && are-classes (drop (i + 1) xs))
+  next-tested = ap are-classes (next xs i h) ∙ classing .more-tested (getD xs i 0) (drop (i + 1) xs)
 
-  pub class-no-greater : getD xs i 0 ≤ m → (leb m 2 && are-classes (drop i xs)) ≡ (leb m 2 && are-classes (drop (i + 1) xs))
-  class-no-greater l = rw (next xs i h) (second-adds-none (leb m 2) (leb (getD xs i 0) 2) _ (λ e. le-leb (getD xs i 0) 2 (omega (arith, leb-true m 2 e))))
+  pub class-greater : m < getD xs i 0 → (leb m highest-class && are-classes (drop i xs)) ≡ (leb (getD xs i 0) highest-class && are-classes (drop (i + 1) xs))
+  class-greater l =
+      rw next-tested (first-adds-none (leb m highest-class) (leb (getD xs i 0) highest-class) _ (λ e. le-leb m highest-class (omega (arith, leb-true (getD xs i 0) highest-class e))))
+
+  pub class-no-greater : getD xs i 0 ≤ m → (leb m highest-class && are-classes (drop i xs)) ≡ (leb m highest-class && are-classes (drop (i + 1) xs))
+  class-no-greater l =
+      rw next-tested (second-adds-none (leb m highest-class) (leb (getD xs i 0) highest-class) _ (λ e. le-leb (getD xs i 0) highest-class (omega (arith, leb-true m highest-class e))))

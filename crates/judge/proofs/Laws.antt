@@ -4,12 +4,10 @@ use native.Mathlib.Omega.{arith}
 use native.Mathlib.Decide.{decLt}
 use mathlib.Core.Path.{_≡_, refl, ap, sym, subst, _∙_}
 use mathlib.Core.Logic.{_↔_, _≢_, _⊎_, inl, inr}
-use mathlib.Core.Bool.{Bool, true, false, and-eq-true-iff}
+use mathlib.Core.Bool.{Bool, true, false, not}
 use mathlib.Core.List.{List, [], _∷_}
 use lib.ListN.{length, take, getD}
 use lib.Seq.{take-take, length-take-le}
-use lib.Dec.{leb}
-use borrow.Author.Tests.{leb-true}
 use Rattle.plan.specs.declared.counts.Counts.{Counts}
 use Rattle.plan.specs.declared.stage.Answer.{Answer}
 use Rattle.plan.specs.declared.stage.Answer.the-variants.{GoOn, Accept, Reject}
@@ -20,16 +18,19 @@ use Rattle.plan.specs.declared.ways.Way.the-variants.{Staged, Earliest}
 use Rattle.plan.specs.Plan.{stages, admitted}
 use Rattle.plan.specs.Counts.{units, no-units, add-units, counts}
 use Rattle.plan.specs.Stopping.{staged, earliest, answer}
-use Rattle.plan.specs.Sample.{Classes, Rule, Stops}
+use Rattle.plan.specs.Sample.{Classes, are-classes, Rule, Stops}
+use Rattle.plan.specs.Refusal.{Refusal, First, place, in-order}
+use Rattle.plan.specs.Reply.{refused}
 use Rattle.plan.specs.Promise.{earliest-rule, staged-rule, One-stage}
 use Rattle.plan.proofs.Answers.{accept-stops, reject-stops}
 use Rattle.plan.proofs.Promise.{shape, one-stage, promise, counting, ways}
-use Rattle.plan.proofs.Refusals.{refused-exactly}
+use Rattle.plan.proofs.Sample.{classing}
+use Rattle.plan.proofs.Refusals.{first-refusals, refusal-law}
 use Rattle.judge.specs.declared.stop.Stop.{Stop}
 use Rattle.judge.specs.declared.list.Judged.{Judged}
 use Rattle.judge.specs.declared.list.Judged.the-variants.{Refused, Stops as Stopped-list}
 use Rattle.judge.specs.Event.{events, how-many}
-use Rattle.judge.specs.Judge.{first-stop, stop-of, are-classes, refusals, judgement, judged}
+use Rattle.judge.specs.Judge.{first-stop, stop-of, refusals, judgement, judged, judge-reply}
 use Rattle.judge.specs.Laws.{at, rule-of, Refused-rightly, Granted-rightly, Stop-laws, Class-laws}
 use Rattle.judge.proofs.Along.{stop-within}
 use Rattle.judge.proofs.Least.{Stopped, Passed, walked, next-counts}
@@ -38,20 +39,48 @@ use Rattle.judge.proofs.FullStop.{at-acceptance, at-rejection}
 
 -- ---- refusals
 
+-- a refused reply is of that refusal
+of-reply : (d : Judged) (n : ℕ) → judge-reply d ≡ refused n → d ≡ Refused n
+of-reply (Refused m) n e = cc
+of-reply (Stopped-list j) n e = cc
+
+rows-in-order : (plan list : List ℕ) → in-order 0 (refusals plan list) ≡ true
+unfolding place in-order
+rows-in-order plan list = refl
+
 pub refused-rightly : (plan list : List ℕ) → Refused-rightly plan list
 unfolding judged
-refused-rightly plan list n =
-    refused-exactly Judged Refused (refusals plan list) (Stopped-list (judgement plan list)) (λ m k e. cc) (λ k e. let z : _≡_ {A = ℕ} 0 1 = cc in omega arith) n
+refused-rightly plan list =
+    let law = refusal-law Judged Refused (refusals plan list) (Stopped-list (judgement plan list)) (λ m k e. cc) (λ k e. let z : _≡_ {A = ℕ} 0 1 = cc in omega arith) (rows-in-order plan list) in
+    record {
+      exactly = λ n. (λ e. law .exactly n .0 (of-reply _ n e), λ f. ap judge-reply (law .exactly n .1 f));
+      lowest = λ n m e. law .lowest n m (of-reply _ n e);
+      never-zero = λ e. law .never-zero (of-reply _ 0 e);
+    }
 
 pub granted-rightly : (plan list : List ℕ) → Granted-rightly plan list
 unfolding judged
-granted-rightly plan list j = (go (admitted plan) (are-classes list) refl refl, λ f. rw (f .0, f .1, f .2))
+granted-rightly plan list j = (
+  go (admitted plan) (are-classes list) refl refl,
+  λ f. first-refusals .grants _ Refused (refusals plan list) _ (ap not (f .0), (ap not (f .1), tt)) ∙ ap Stopped-list (sym (f .2)),
+)
   where
+    rows : List Refusal
+    rows = refusals plan list
+
+    refused-not : (n : ℕ) → First rows n → judged plan list ≡ Stopped-list j → ⊥
+    refused-not n f g =
+        let h : Refused n ≡ Stopped-list j = sym (first-refusals .refuses _ Refused rows (Stopped-list (judgement plan list)) n f) ∙ g in
+        let z : _≡_ {A = ℕ} 0 1 = cc in
+        omega arith
+
     go : (a b : Bool) → admitted plan ≡ a → are-classes list ≡ b → judged plan list ≡ Stopped-list j
         → (admitted plan ≡ true) × (are-classes list ≡ true) × (j ≡ judgement plan list)
-    go false b e f g = let h : Refused 2 ≡ Stopped-list j = rw e at g in let z : _≡_ {A = ℕ} 0 1 = cc in absurd (omega arith)
-    go true false e f g = let h : Refused 7 ≡ Stopped-list j = rw (e, f) at g in let z : _≡_ {A = ℕ} 0 1 = cc in absurd (omega arith)
-    go true true e f g = let h : Stopped-list (judgement plan list) ≡ Stopped-list j = rw (e, f) at g in (e, f, cc)
+    go false b e f g = absurd (refused-not 2 (inl (ap not e, refl)) g)
+    go true false e f g = absurd (refused-not 7 (inr (ap not e, inl (ap not f, refl))) g)
+    go true true e f g =
+        let h : Stopped-list (judgement plan list) ≡ Stopped-list j = sym (first-refusals .grants _ Refused rows (Stopped-list (judgement plan list)) (ap not e, (ap not f, tt))) ∙ g in
+        (e, f, cc)
 
 -- ---- a way as a stopping rule, by its name
 
@@ -83,7 +112,7 @@ module _ (w : List ℕ) (e : admitted w ≡ true) where
       stop v n f =
           let s : Stops (staged-rule way (stages w)) [] 0 v
           = record { within = omega arith; there = ap (staged way (stages w)) (counting .empty) ∙ f; decides = n; first = λ z l. absurd (omega arith) } in
-          let t = promise w e .staged-later way [] tt 0 v s in
+          let t = promise w e .staged-later way [] (classing .none) 0 v s in
           let none : t .0 ≡ 0 = omega (arith, t .1) in
           let there : earliest-rule (stages w) (take 0 []) ≡ v = rw none at (t .2 .there) in
           n (sym there ∙ ap (earliest (stages w)) (counting .empty) ∙ promise w e .empty)
@@ -228,10 +257,6 @@ stop-laws w xs e = record {
 
 -- ---- lists of classes that a unit may have
 
-classes-of : (xs : List ℕ) → are-classes xs ≡ true → Classes xs
-classes-of [] e = tt
-classes-of (x ∷ xs) e = (leb-true x 2 (and-eq-true-iff (leb x 2) _ .0 e .0), classes-of xs (and-eq-true-iff (leb x 2) _ .0 e .1))
-
 pub class-laws : (plan list : List ℕ) → admitted plan ≡ true → are-classes list ≡ true → Class-laws plan list
 class-laws w xs e f = record {
   no-later = λ n.
@@ -244,7 +269,7 @@ class-laws w xs e f = record {
 }
   where
     c : Classes xs
-    c = classes-of xs f
+    c = classing .tested xs .0 f
 
     both : (a b : StageWay) → (Stops (staged-rule a (stages w)) xs (at (stop-of (Staged a) w xs)) Reject → Stops (staged-rule b (stages w)) xs (at (stop-of (Staged a) w xs)) Reject)
         → stop-of (Staged a) w xs .answer ≡ Reject

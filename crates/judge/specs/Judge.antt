@@ -1,9 +1,9 @@
 -- A list of classes judged four ways. Document 01, "Lists, events, estimates" and "Refused".
 use Prim.Native.Nat.{ℕ}
-use mathlib.Core.Bool.{Bool, true, not, cond, _&&_}
+use mathlib.Core.Bool.{not, cond}
 use mathlib.Core.List.{List, [], _∷_}
 use lib.ListN.{length, getD}
-use lib.Dec.{leb, eqb}
+use lib.Dec.{eqb}
 use Rattle.plan.specs.declared.counts.Counts.{Counts}
 use Rattle.plan.specs.declared.stage.Answer.{Answer}
 use Rattle.plan.specs.declared.stage.Answer.the-variants.{GoOn, Accept, Reject}
@@ -13,7 +13,9 @@ use Rattle.plan.specs.declared.ways.Way.the-variants.{Staged, Earliest}
 use Rattle.plan.specs.Plan.{stages, admitted}
 use Rattle.plan.specs.Counts.{units, no-units, add-units}
 use Rattle.plan.specs.Stopping.{state, answer}
+use Rattle.plan.specs.Sample.{are-classes}
 use Rattle.plan.specs.Refusal.{Refusal, first-refusal}
+use Rattle.plan.specs.Reply.{Reply, granted, refused}
 use Rattle.judge.specs.declared.stop.Stop.{Stop}
 use Rattle.judge.specs.declared.list.Judgement.{Judgement}
 use Rattle.judge.specs.declared.list.Judged.{Judged}
@@ -52,10 +54,6 @@ event-of plan full =
 
 -- ---- judge
 
-abbrev pub are-classes : List ℕ → Bool
-are-classes [] = true
-are-classes (x ∷ xs) = leb x 2 && are-classes xs
-
 abbrev pub refusals : List ℕ → List ℕ → List Refusal
 refusals plan list =
     record { number = 2; when = not (admitted plan) } ∷
@@ -74,13 +72,13 @@ judgement plan list = record {
 unfoldable pub judged : List ℕ → List ℕ → Judged
 judged plan list = first-refusal Refused (refusals plan list) (Stops (judgement plan list))
 
--- ---- 01's numbers: stop and state of each way and the event, or the refusal's number
+-- ---- 01's numbers of an answer: stop and state of each way and the event, or the refusal's number
 
-abbrev pub numbers : Judged → List ℕ
-numbers (Refused n) = n ∷ []
-numbers (Stops j) =
+abbrev pub judge-reply : Judged → Reply
+judge-reply (Refused n) = refused n
+judge-reply (Stops j) = granted (
     units (j .uncurtailed .counts) ∷ state (j .uncurtailed .answer) ∷
     units (j .semi .counts) ∷ state (j .semi .answer) ∷
     units (j .full .counts) ∷ state (j .full .answer) ∷
     units (j .earliest .counts) ∷ state (j .earliest .answer) ∷
-    j .event ∷ []
+    j .event ∷ [])

@@ -13,13 +13,14 @@ use Rattle.plan.specs.declared.ways.Way.the-variants.{Staged, Earliest}
 use Rattle.plan.specs.Plan.{stages, total, admitted}
 use Rattle.plan.specs.Counts.{units, counts}
 use Rattle.plan.specs.Stopping.{answer}
-use Rattle.plan.specs.Sample.{All-have, Rule, Stops}
-use Rattle.plan.specs.Refusal.{First}
+use Rattle.plan.specs.Sample.{are-classes, All-have, Rule, Stops}
+use Rattle.plan.specs.Refusal.{Refused-by}
+use Rattle.plan.specs.Reply.{refused}
 use Rattle.judge.specs.declared.stop.Stop.{Stop}
 use Rattle.judge.specs.declared.list.Judgement.{Judgement}
-use Rattle.judge.specs.declared.list.Judged.the-variants.{Refused, Stops as Stopped-list}
+use Rattle.judge.specs.declared.list.Judged.the-variants.{Stops as Stopped-list}
 use Rattle.judge.specs.Event.{events, how-many}
-use Rattle.judge.specs.Judge.{stop-of, are-classes, refusals, judgement, judged}
+use Rattle.judge.specs.Judge.{stop-of, refusals, judgement, judged, judge-reply}
 
 -- the stop of 01: after how many units
 abbrev pub at : Stop → ℕ
@@ -29,9 +30,9 @@ at s = units (s .counts)
 abbrev pub rule-of : Way → List ℕ → Rule
 rule-of way plan h = answer way (stages plan) (counts h)
 
--- demand 1: refused with n exactly when n is the first row that applies
+-- demand 1: refused with n exactly when n is the first row that applies, and no row that applies stands before it in the table
 abbrev pub Refused-rightly : List ℕ → List ℕ → Type 0
-Refused-rightly plan list = (n : ℕ) → (judged plan list ≡ Refused n) ↔ First (refusals plan list) n
+Refused-rightly plan list = Refused-by refused (refusals plan list) (judge-reply (judged plan list))
 
 -- granted exactly when the plan is admitted and each class is one that a unit may have; and then it is this judgement
 abbrev pub Granted-rightly : List ℕ → List ℕ → Type 0

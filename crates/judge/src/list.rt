@@ -5,7 +5,8 @@ use crate::stop::first_stop;
 use plan::StageWay;
 use plan::Way;
 ghost use mathlib.Core.Path.{_≡_};
-ghost use Rattle.judge.specs.Judge.{are-classes, judged};
+ghost use Rattle.plan.specs.Sample.{are-classes};
+ghost use Rattle.judge.specs.Judge.{judged};
 
 // The stops of the four ways, and the event at full's stop.
 pub struct Judgement {

@@ -5,7 +5,7 @@ use mathlib.Core.Path.{_≡_}
 use mathlib.Core.List.{List, [], _∷_}
 use Rattle.plan.specs.Plan.{stages}
 use Rattle.plan.specs.Reply.{granted}
-use Rattle.judge.specs.Judge.{judged, numbers}
+use Rattle.judge.specs.Judge.{judged, judge-reply}
 use Rattle.chance.specs.Reply.{weights-of, bounds-reply, chance-answer}
 use Rattle.sheetmodel.specs.declared.reply.Estimate.{Estimate}
 use Rattle.sheetmodel.specs.Estimate.{estimate-of}
@@ -26,15 +26,15 @@ abbrev pub ten-good : List ℕ
 ten-good = 0 ∷ 0 ∷ 0 ∷ 0 ∷ 0 ∷ 0 ∷ 0 ∷ 0 ∷ 0 ∷ 0 ∷ []
 
 pub record Known-lots : Type 0 where
-  pub a-0000 : numbers (judged plan-a (0 ∷ 0 ∷ 0 ∷ 0 ∷ [])) ≡ 0 ∷ 0 ∷ 0 ∷ 0 ∷ 4 ∷ 1 ∷ 4 ∷ 1 ∷ 1 ∷ []
-  pub a-0001 : numbers (judged plan-a (0 ∷ 0 ∷ 0 ∷ 1 ∷ [])) ≡ 0 ∷ 0 ∷ 0 ∷ 0 ∷ 4 ∷ 1 ∷ 4 ∷ 1 ∷ 3 ∷ []
-  pub a-000 : numbers (judged plan-a (0 ∷ 0 ∷ 0 ∷ [])) ≡ 0 ∷ 0 ∷ 0 ∷ 0 ∷ 0 ∷ 0 ∷ 0 ∷ 0 ∷ 0 ∷ []
-  pub a-11000 : numbers (judged plan-a (1 ∷ 1 ∷ 0 ∷ 0 ∷ 0 ∷ [])) ≡ 5 ∷ 1 ∷ 5 ∷ 1 ∷ 5 ∷ 1 ∷ 5 ∷ 1 ∷ 2 ∷ []
-  pub a-22 : numbers (judged plan-a (2 ∷ 2 ∷ [])) ≡ 0 ∷ 0 ∷ 2 ∷ 2 ∷ 2 ∷ 2 ∷ 2 ∷ 2 ∷ 4 ∷ []
-  pub a-112 : numbers (judged plan-a (1 ∷ 1 ∷ 2 ∷ [])) ≡ 0 ∷ 0 ∷ 3 ∷ 2 ∷ 3 ∷ 2 ∷ 3 ∷ 2 ∷ 5 ∷ []
-  pub a-122 : numbers (judged plan-a (1 ∷ 2 ∷ 2 ∷ [])) ≡ 0 ∷ 0 ∷ 3 ∷ 2 ∷ 3 ∷ 2 ∷ 3 ∷ 2 ∷ 6 ∷ []
+  pub a-0000 : judge-reply (judged plan-a (0 ∷ 0 ∷ 0 ∷ 0 ∷ [])) ≡ granted (0 ∷ 0 ∷ 0 ∷ 0 ∷ 4 ∷ 1 ∷ 4 ∷ 1 ∷ 1 ∷ [])
+  pub a-0001 : judge-reply (judged plan-a (0 ∷ 0 ∷ 0 ∷ 1 ∷ [])) ≡ granted (0 ∷ 0 ∷ 0 ∷ 0 ∷ 4 ∷ 1 ∷ 4 ∷ 1 ∷ 3 ∷ [])
+  pub a-000 : judge-reply (judged plan-a (0 ∷ 0 ∷ 0 ∷ [])) ≡ granted (0 ∷ 0 ∷ 0 ∷ 0 ∷ 0 ∷ 0 ∷ 0 ∷ 0 ∷ 0 ∷ [])
+  pub a-11000 : judge-reply (judged plan-a (1 ∷ 1 ∷ 0 ∷ 0 ∷ 0 ∷ [])) ≡ granted (5 ∷ 1 ∷ 5 ∷ 1 ∷ 5 ∷ 1 ∷ 5 ∷ 1 ∷ 2 ∷ [])
+  pub a-22 : judge-reply (judged plan-a (2 ∷ 2 ∷ [])) ≡ granted (0 ∷ 0 ∷ 2 ∷ 2 ∷ 2 ∷ 2 ∷ 2 ∷ 2 ∷ 4 ∷ [])
+  pub a-112 : judge-reply (judged plan-a (1 ∷ 1 ∷ 2 ∷ [])) ≡ granted (0 ∷ 0 ∷ 3 ∷ 2 ∷ 3 ∷ 2 ∷ 3 ∷ 2 ∷ 5 ∷ [])
+  pub a-122 : judge-reply (judged plan-a (1 ∷ 2 ∷ 2 ∷ [])) ≡ granted (0 ∷ 0 ∷ 3 ∷ 2 ∷ 3 ∷ 2 ∷ 3 ∷ 2 ∷ 6 ∷ [])
   pub a-122-estimate : estimate-of (stages plan-a) (1 ∷ 2 ∷ 2 ∷ []) ≡ record { good = 0; marginal = 1; bad = 1; over = 2 }
-  pub b-ten-good : numbers (judged plan-b ten-good) ≡ 10 ∷ 1 ∷ 10 ∷ 1 ∷ 10 ∷ 1 ∷ 8 ∷ 1 ∷ 0 ∷ []
-  pub b-2-ten-good : numbers (judged plan-b (2 ∷ ten-good)) ≡ 11 ∷ 1 ∷ 11 ∷ 1 ∷ 11 ∷ 1 ∷ 9 ∷ 1 ∷ 0 ∷ []
+  pub b-ten-good : judge-reply (judged plan-b ten-good) ≡ granted (10 ∷ 1 ∷ 10 ∷ 1 ∷ 10 ∷ 1 ∷ 8 ∷ 1 ∷ 0 ∷ [])
+  pub b-2-ten-good : judge-reply (judged plan-b (2 ∷ ten-good)) ≡ granted (11 ∷ 1 ∷ 11 ∷ 1 ∷ 11 ∷ 1 ∷ 9 ∷ 1 ∷ 0 ∷ [])
   pub one-unit : bounds-reply (chance-answer size-one (weights-of 1 1 1) 2) ≡ granted (366503875925 ∷ 366503875926 ∷ [])
   pub one-unit-half : bounds-reply (chance-answer size-one (weights-of 1 0 1) 2) ≡ granted (549755813888 ∷ 549755813888 ∷ [])

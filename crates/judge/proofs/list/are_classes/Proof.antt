@@ -7,13 +7,14 @@ use mathlib.Core.Bool.{_&&_, and-true}
 use lib.ListN.{length, drop, drop-of-length-le}
 use lib.Dec.{leb}
 use borrow.Author.Needs.{needs}
-use Rattle.judge.specs.Judge.{are-classes}
+use Rattle.plan.specs.Sample.{highest-class, are-classes}
+use Rattle.plan.proofs.Sample.{classing}
 use Rattle.judge.proofs.Along.{class-greater, class-no-greater}
 use Rattle.judge.proofs.list.are_classes.Statement.{statement}
 use Rattle.judge.proofs.list.are_classes.Tie as tie
 
 abbrev Inv-loop : tie.InvT-loop
-Inv-loop list greatest₀ i₀ greatest i = (i ≤ length list) × (are-classes list ≡ (leb greatest 2 && are-classes (drop i list)))
+Inv-loop list greatest₀ i₀ greatest i = (i ≤ length list) × (are-classes list ≡ (leb greatest highest-class && are-classes (drop i list)))
 
 abbrev μ-loop : tie.MeasureT-loop
 μ-loop list greatest₀ i₀ greatest i = length list - i
@@ -34,7 +35,7 @@ returns : tie.Need-returns Inv-loop μ-loop
 returns c =
     let l = c .before .loop in
     let xs = c .before .before .args .list .now in
-    sym (l .inv .1 ∙ rw (drop-of-length-le xs (c .loop-test .left)) (and-true (leb (l .greatest) 2)))
+    sym (l .inv .1 ∙ rw (drop-of-length-le xs (c .loop-test .left), classing .none-tested) (and-true (leb (l .greatest) highest-class)))
 
 pub are-classes-spec : {M : Type 1} → statement M
 are-classes-spec =

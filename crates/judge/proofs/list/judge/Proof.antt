@@ -3,16 +3,19 @@ use Prim.Native.Nat.{ℕ}
 use native.Mathlib.Omega.{arith}
 use borrow.Author.Needs.{needs}
 use borrow.Author.Tests.{not-true, not-false}
-use mathlib.Core.Bool.{true, false}
+use mathlib.Core.Bool.{true, false, not}
+use mathlib.Core.Logic.{inl, inr}
 use mathlib.Core.List.{List}
-use mathlib.Core.Path.{_≡_, sym, _∙_}
+use mathlib.Core.Path.{_≡_, refl, ap, sym, _∙_}
 use Rattle.plan.specs.declared.ways.StageWay.the-variants.{Full}
 use Rattle.plan.specs.declared.ways.Way.the-variants.{Staged}
 use Rattle.plan.specs.Plan.{admitted}
 use Rattle.plan.specs.Counts.{no-units}
+use Rattle.plan.specs.Sample.{are-classes}
 use Rattle.plan.proofs.Promise.{shape}
+use Rattle.plan.proofs.Refusals.{first-refusals}
 use Rattle.judge.specs.declared.list.Judged.the-variants.{Stops, Refused}
-use Rattle.judge.specs.Judge.{event-of, are-classes, judgement, judged}
+use Rattle.judge.specs.Judge.{event-of, refusals, judgement, judged}
 use Rattle.judge.proofs.Along.{stop-within}
 use Rattle.judge.proofs.list.judge.Statement.{statement}
 use Rattle.judge.proofs.list.judge.Tie as tie
@@ -20,15 +23,15 @@ use Rattle.judge.proofs.list.judge.Tie as tie
 module _ (w xs : List ℕ) where
   no-plan : admitted w ≡ false → Refused 2 ≡ judged w xs
   unfolding judged
-  no-plan e = rw e
+  no-plan e = sym (first-refusals .refuses _ Refused (refusals w xs) (Stops (judgement w xs)) 2 (inl (ap not e, refl)))
 
   no-class : admitted w ≡ true → are-classes xs ≡ false → Refused 7 ≡ judged w xs
   unfolding judged
-  no-class e f = rw (e, f)
+  no-class e f = sym (first-refusals .refuses _ Refused (refusals w xs) (Stops (judgement w xs)) 7 (inr (ap not e, inl (ap not f, refl))))
 
   granted : admitted w ≡ true → are-classes xs ≡ true → Stops (judgement w xs) ≡ judged w xs
   unfolding judged
-  granted e f = rw (e, f)
+  granted e f = sym (first-refusals .grants _ Refused (refusals w xs) (Stops (judgement w xs)) (ap not e, (ap not f, tt)))
 
 returns : tie.Need-returns
 returns c =
