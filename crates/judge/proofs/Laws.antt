@@ -19,7 +19,7 @@ use Rattle.plan.specs.Plan.{stages, admitted}
 use Rattle.plan.specs.Counts.{units, no-units, add-units, counts}
 use Rattle.plan.specs.Stopping.{staged, earliest, answer}
 use Rattle.plan.specs.Sample.{Classes, are-classes, Rule, Stops}
-use Rattle.plan.specs.Refusal.{Refusal, First, place, in-order}
+use Rattle.plan.specs.Refusal.{Refusal, First}
 use Rattle.plan.specs.Reply.{refused}
 use Rattle.plan.specs.Promise.{earliest-rule, staged-rule, One-stage}
 use Rattle.plan.proofs.Answers.{accept-stops, reject-stops}
@@ -44,14 +44,10 @@ of-reply : (d : Judged) (n : ℕ) → judge-reply d ≡ refused n → d ≡ Refu
 of-reply (Refused m) n e = cc
 of-reply (Stopped-list j) n e = cc
 
-rows-in-order : (plan list : List ℕ) → in-order 0 (refusals plan list) ≡ true
-unfolding place in-order
-rows-in-order plan list = refl
-
 pub refused-rightly : (plan list : List ℕ) → Refused-rightly plan list
 unfolding judged
 refused-rightly plan list =
-    let law = refusal-law Judged Refused (refusals plan list) (Stopped-list (judgement plan list)) (λ m k e. cc) (λ k e. let z : _≡_ {A = ℕ} 0 1 = cc in omega arith) (rows-in-order plan list) in
+    let law = refusal-law Judged Refused (refusals plan list) (Stopped-list (judgement plan list)) (λ m k e. cc) (λ k e. let z : _≡_ {A = ℕ} 0 1 = cc in omega arith) refl in
     record {
       exactly = λ n. (λ e. law .exactly n .0 (of-reply _ n e), λ f. ap judge-reply (law .exactly n .1 f));
       lowest = λ n m e. law .lowest n m (of-reply _ n e);
