@@ -13,8 +13,7 @@ fn stop_of(s: Stop) -> u32
     requires { ⌜ units (s .counts) ≤ 1000 ⌝ }
     ensures { λ r. ⌜ r ≡ units (s .counts) ⌝ }
 {
-    let c = s.counts;
-    c.good + c.marginal + c.bad
+    plan::units(s.counts)
 }
 
 fn state_of(s: Stop) -> u32

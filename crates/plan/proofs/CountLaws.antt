@@ -18,7 +18,7 @@ use Rattle.plan.specs.Counts.{units, nongood, add-units, counts}
 use Rattle.plan.specs.Stopping.{at-filled, completed, at-stage, staged, earliest, answer}
 use Rattle.plan.specs.Promise.{Same-stage, rank, Worse, More}
 use Rattle.plan.proofs.Order.{at-end-mono, Better, undecided, undecided-ranks, settled-mono, rejected}
-use Rattle.plan.proofs.Units.{add-good, add-bad, added, more-taken, units-counts, units-taken}
+use Rattle.plan.proofs.Counting.{add-good, add-bad, added, more-taken, units-counts, units-taken}
 use Rattle.plan.proofs.Ends.{Each, each-end, each-both, first-mono, first-same, first-on, first-rejects, current-past, end-past, end-due, end-case}
 use Rattle.plan.proofs.Limits.{Limits}
 

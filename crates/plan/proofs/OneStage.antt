@@ -24,7 +24,7 @@ use Rattle.plan.proofs.StageTests.{rejects-from, rejects-reaches, rejec
 use Rattle.plan.proofs.Ends.{current-here, current-past, end-past, end-due}
 use Rattle.plan.proofs.Limits.{Sound, Decides, Limits, tests, limits}
 use Rattle.plan.proofs.Stages.{stages-more, after-none}
-use Rattle.plan.proofs.Units.{add-good, add-bad}
+use Rattle.plan.proofs.Counting.{add-good, add-bad}
 
 or-else-none : (a : Answer) → or-else a GoOn ≡ a
 or-else-none GoOn = refl

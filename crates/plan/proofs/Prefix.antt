@@ -17,7 +17,7 @@ use Rattle.plan.specs.Counts.{units, add-units, counts}
 use Rattle.plan.specs.Stopping.{at-end, at-filled, completed, settled}
 use Rattle.plan.specs.Promise.{rank, More}
 use Rattle.plan.proofs.Order.{at-end-mono, Better, settled-past}
-use Rattle.plan.proofs.Units.{more-taken, units-counts, units-taken, counts-append, add-none, after-replicate}
+use Rattle.plan.proofs.Counting.{more-taken, units-counts, units-taken, counts-append, add-none, after-replicate}
 use Rattle.plan.proofs.Ends.{Each, end-case}
 
 -- ---- more units are no worse than bad ones and no better than good ones

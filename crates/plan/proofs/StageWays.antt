@@ -25,7 +25,7 @@ use Rattle.plan.proofs.Answers.{reject-stops}
 use Rattle.plan.proofs.Decide.{decided-reject, decided-accept, decided-on}
 use Rattle.plan.proofs.StageTests.{rejects-reaches, more-rejected, fewer-accepted}
 use Rattle.plan.proofs.Order.{end-same, rejected, accepted}
-use Rattle.plan.proofs.Units.{more-taken, units-taken}
+use Rattle.plan.proofs.Counting.{more-taken, units-taken}
 use Rattle.plan.proofs.Ends.{Each, or-else-first, current-here, current-later, current-past}
 use Rattle.plan.proofs.Limits.{Sound, Limits}
 

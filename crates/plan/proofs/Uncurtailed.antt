@@ -18,7 +18,7 @@ use Rattle.plan.specs.Counts.{units, counts}
 use Rattle.plan.specs.Stopping.{or-else, at-end, first-answer, current, uncurtailed-at, staged}
 use Rattle.plan.specs.Sample.{verdict, Faithful}
 use Rattle.plan.specs.Promise.{staged-rule}
-use Rattle.plan.proofs.Units.{units-counts}
+use Rattle.plan.proofs.Counting.{units-counts}
 use Rattle.plan.proofs.Ends.{Each, current-here, current-later}
 use Rattle.plan.proofs.Limits.{Sound, Limits}
 use Rattle.plan.proofs.Verdicts.{verdict-decides}

@@ -24,7 +24,7 @@ use Rattle.plan.proofs.Answers.{reject-stops}
 use Rattle.plan.proofs.Decide.{decided-on, when-on}
 use Rattle.plan.proofs.StageTests.{more-rejected, fewer-accepted}
 use Rattle.plan.proofs.Order.{end-same}
-use Rattle.plan.proofs.Units.{more}
+use Rattle.plan.proofs.Counting.{more}
 use Rattle.plan.proofs.Ends.{each-end, current-here, current-later}
 use Rattle.plan.proofs.CountLaws.{undecided-sooner}
 

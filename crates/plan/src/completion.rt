@@ -2,6 +2,7 @@
 // the best case (every further unit good) is rejected. Document 01, "Four ways to stop".
 use crate::counts::Counts;
 use crate::counts::add_units;
+use crate::counts::units;
 use crate::stage::Answer;
 use crate::stage::at_end;
 ghost use mathlib.Core.Path.{_≡_};
@@ -17,11 +18,11 @@ fn at_filled(plan: &[u32], class: u32, end: u32, c: Counts) -> Answer
     requires { ⌜ (5 ≤ length (now plan)) × (units c ≤ 1000) × (end ≤ 1000) ⌝ }
     ensures { λ r. ⌜ r ≡ at-filled class c end (first (now (plan .entry))) ⌝ }
 {
-    let units = c.good + c.marginal + c.bad;
-    if end < units {
+    let y = units(c);
+    if end < y {
         return Answer::GoOn;
     }
-    at_end(plan, add_units(class, end - units, c))
+    at_end(plan, add_units(class, end - y, c))
 }
 
 // The uncurtailed verdict where every unit after c is of one class. The stages left are those of

@@ -22,6 +22,14 @@ pub fn no_units() -> Counts
     }
 }
 
+// How many units.
+pub fn units(c: Counts) -> u32
+    requires { ⌜ units c ≤ 1000 ⌝ }
+    ensures { λ r. ⌜ r ≡ units c ⌝ }
+{
+    c.good + c.marginal + c.bad
+}
+
 // n units more of one class. Every class but good (0) and bad (2) counts as marginal.
 pub fn add_units(class: u32, n: u32, c: Counts) -> Counts
     requires { ⌜ units c + n ≤ 4294967295 ⌝ }

@@ -1,6 +1,6 @@
 -- `plan::add_units` meets its contract: each return is the class's case of `add-units`. Assumes nothing.
 use borrow.Author.Needs.{needs}
-use Rattle.plan.proofs.Units.{add-good, add-bad, add-marginal}
+use Rattle.plan.proofs.Counting.{add-good, add-bad, add-marginal}
 use Rattle.plan.proofs.counts.add_units.Statement.{statement}
 use Rattle.plan.proofs.counts.add_units.Tie as tie
 
