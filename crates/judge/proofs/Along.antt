@@ -1,14 +1,12 @@
 -- One turn along a list of classes, where no way stops any more, and the greatest class. Assumes nothing.
 use Prim.Native.Nat.{ℕ, _+_, _≤_, _<_}
 use native.Mathlib.Omega.{arith}
-use native.Mathlib.Numerals.{add-one}
 use mathlib.Core.Path.{_≡_, refl, ap, sym, _∙_}
 use mathlib.Core.Logic.{_≢_}
 use native.Mathlib.Decide.{decLt}
 use mathlib.Core.Bool.{Bool, true, false, _&&_}
 use mathlib.Core.List.{List, [], _∷_}
 use lib.ListN.{length, getD, drop}
-use lib.Seq.{drop-cons}
 use lib.Dec.{leb}
 use borrow.Author.Tests.{leb-true, le-leb}
 use Rattle.plan.specs.declared.counts.Counts.{Counts}
@@ -19,19 +17,17 @@ use Rattle.plan.specs.Plan.{stages, total, admitted}
 use Rattle.plan.specs.Counts.{units, add-units}
 use Rattle.plan.specs.Stopping.{answer}
 use Rattle.plan.specs.Sample.{highest-class, are-classes}
+use Rattle.plan.proofs.Lists.{drop-next}
 use Rattle.plan.proofs.Answers.{accept-stops, reject-stops}
 use Rattle.plan.proofs.Promise.{promise, counting}
 use Rattle.plan.proofs.Sample.{classing}
 use Rattle.judge.specs.Judge.{no-stop, stop-here, first-stop}
 
-pub next : (xs : List ℕ) (i : ℕ) → i < length xs → drop i xs ≡ getD xs i 0 ∷ drop (i + 1) xs
-next xs i h = drop-cons xs i 0 h ∙ ap (λ (j : ℕ). getD xs i 0 ∷ drop j xs) (sym (add-one i))
-
 -- the class at i, the counts d with it, and the answer a to them
 pub turn : (rule : Counts → Answer) (xs : List ℕ) (i : ℕ) (c : Counts) → i < length xs →
     (d : Counts) → d ≡ add-units (getD xs i 0) 1 c → (a : Answer) → a ≡ rule d →
     first-stop rule c (drop i xs) ≡ stop-here d a (first-stop rule d (drop (i + 1) xs))
-turn rule xs i c h d e a f = rw (next xs i h, ← e, ← f)
+turn rule xs i c h d e a f = rw (drop-next xs i h, ← e, ← f)
 
 -- after S units
 pub none-past : (w : List ℕ) → admitted w ≡ true → (way : Way) (c : Counts) (xs : List ℕ) → total (stages w) ≤ units c
@@ -71,7 +67,7 @@ second-adds-none false b r f = refl
 
 module _ (xs : List ℕ) (i m : ℕ) (h : i < length xs) where
   next-tested : are-classes (drop i xs) ≡ (leb (getD xs i 0) highest-class && are-classes (drop (i + 1) xs))
-  next-tested = ap are-classes (next xs i h) ∙ classing .more-tested (getD xs i 0) (drop (i + 1) xs)
+  next-tested = ap are-classes (drop-next xs i h) ∙ classing .more-tested (getD xs i 0) (drop (i + 1) xs)
 
   pub class-greater : m < getD xs i 0 → (leb m highest-class && are-classes (drop i xs)) ≡ (leb (getD xs i 0) highest-class && are-classes (drop (i + 1) xs))
   class-greater l =

@@ -16,17 +16,17 @@ use Rattle.plan.specs.Plan.{stages, admitted}
 use Rattle.plan.specs.Counts.{units, add-units, counts-after}
 use Rattle.plan.specs.Stopping.{answer}
 use Rattle.plan.specs.Promise.{Same-stage}
+use Rattle.plan.proofs.Lists.{drop-next}
 use Rattle.plan.proofs.Promise.{promise, counting}
 use Rattle.judge.specs.declared.stop.Stop.{Stop}
 use Rattle.judge.specs.Judge.{stop-here, first-stop}
-use Rattle.judge.proofs.Along.{next}
 
 -- ---- counting
 
 -- the class at i, and the counts d with it
 pub count-turn : (xs : List ℕ) (i : ℕ) (c : Counts) → i < length xs → (d : Counts) → d ≡ add-units (getD xs i 0) 1 c →
     counts-after c (drop i xs) ≡ counts-after d (drop (i + 1) xs)
-count-turn xs i c h d e = rw (next xs i h, e) (counting .after-one c (getD xs i 0) (drop (i + 1) xs))
+count-turn xs i c h d e = rw (drop-next xs i h, e) (counting .after-one c (getD xs i 0) (drop (i + 1) xs))
 
 -- ---- along a run and what follows it
 

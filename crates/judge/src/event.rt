@@ -3,21 +3,12 @@ use crate::stop::Stop;
 use plan::Answer;
 use plan::Counts;
 ghost use mathlib.Core.Path.{_≡_};
-ghost use mathlib.Core.Bool.{true, _&&_};
+ghost use mathlib.Core.Bool.{true};
 ghost use Prim.Native.Nat.{_≤_};
 ghost use Rattle.plan.specs.Counts.{units};
 ghost use Rattle.plan.specs.Plan.{admitted};
 ghost use Rattle.judge.specs.Event.{event-at};
 ghost use Rattle.judge.specs.Judge.{event-of};
-
-fn both(a: bool, b: bool) -> bool
-    ensures { λ r. ⌜ r ≡ (a && b) ⌝ }
-{
-    if a {
-        return b;
-    }
-    false
-}
 
 // The event with so many units, by the stage's size and rejection numbers; 0 if there is none.
 fn event_at(n: u32, r1: u32, r2: u32, c: Counts) -> u32
@@ -29,22 +20,22 @@ fn event_at(n: u32, r1: u32, r2: u32, c: Counts) -> u32
     let bad = c.bad;
     let limit1 = n - r1 + 1;
     let limit2 = n - r2 + 1;
-    if both(good + marginal == limit2, limit1 < good) {
+    if good + marginal == limit2 && limit1 < good {
         return 1;
     }
-    if both(good == limit1, r1 - r2 < marginal) {
+    if good == limit1 && r1 - r2 < marginal {
         return 2;
     }
-    if both(good + marginal == limit2, good == limit1) {
+    if good + marginal == limit2 && good == limit1 {
         return 3;
     }
-    if both(bad == r2, marginal < r1 - r2) {
+    if bad == r2 && marginal < r1 - r2 {
         return 4;
     }
-    if both(marginal + bad == r1, bad < r2) {
+    if marginal + bad == r1 && bad < r2 {
         return 5;
     }
-    if both(bad == r2, marginal == r1 - r2) {
+    if bad == r2 && marginal == r1 - r2 {
         return 6;
     }
     0

@@ -60,48 +60,35 @@ end-below-is p y l = let t = last-end 0 p y (omega arith) in (t .below, t .last)
 
 -- ---- the first end from y on
 
-record Next (before : ℕ) (p : List Stage) (y : ℕ) : Type 0 where
-  end : ℕ
-  is : End before p end
-  from : y ≤ end
-  first : (e : ℕ) → End before p e → y ≤ e → end ≤ e
+-- e is an end from y on, and no other one from y on comes before it
+record Next (before : ℕ) (p : List Stage) (y e : ℕ) : Type 0 where
+  is : End before p e
+  from : y ≤ e
+  first : (z : ℕ) → End before p z → y ≤ z → e ≤ z
 
-next-end : (before : ℕ) (p : List Stage) (y : ℕ) → ((e : ℕ) → End before p e → e < y) ⊎ Next before p y
-unfolding End
-next-end before [] y = inl (λ e m. absurd m)
-next-end before (s ∷ rest) y = go (decLt (before + s .size) y) (next-end (before + s .size) rest y)
+next-end : (y before : ℕ) (p : List Stage) → (before < y) ⊎ (1 ≤ length p) → y ≤ before + total p → Next before p y (end-from before p y)
+unfolding End total end-from
+next-end y before [] (inl k) l = absurd (omega arith)
+next-end y before [] (inr k) l = absurd (omega arith)
+next-end y before (s ∷ rest) some l = go (decLt (before + s .size) y) (λ k. next-end y (before + s .size) rest (inl k) (omega arith))
   where
-    go : Dec (before + s .size < y) → ((e : ℕ) → End (before + s .size) rest e → e < y) ⊎ Next (before + s .size) rest y
-        → ((e : ℕ) → End before (s ∷ rest) e → e < y) ⊎ Next before (s ∷ rest) y
-    go (no k) t = inr (record {
-      end = before + s .size;
-      is = inl refl;
-      from = omega arith;
-      first = λ e m l. ⊎-elim (λ h. omega arith) (λ n. later (before + s .size) rest e n) m;
-    })
-    go (yes k) (inl f) = inl (λ e m. ⊎-elim (λ h. omega arith) (λ n. f e n) m)
-    go (yes k) (inr t) = inr (record {
-      end = t .end;
-      is = inr (t .is);
-      from = t .from;
-      first = λ e m l. ⊎-elim (λ h. absurd (omega arith)) (λ n. t .first e n l) m;
-    })
+    go : Dec (before + s .size < y) → (before + s .size < y → Next (before + s .size) rest y (end-from (before + s .size) rest y))
+        → Next before (s ∷ rest) y (end-from before (s ∷ rest) y)
+    go (yes k) t =
+        let n = t k in
+        rw (lt-ltb (before + s .size) y k) (record { is = inr (n .is); from = n .from; first = λ z m q. ⊎-elim (λ h. absurd (omega arith)) (λ r. n .first z r q) m })
+    go (no k) t =
+        rw (le-ltb (before + s .size) y (omega arith))
+        (record { is = inl refl; from = omega arith; first = λ z m q. ⊎-elim (λ h. omega arith) (λ r. later (before + s .size) rest z r) m })
 
-module _ (y : ℕ) where
-  first-from : (before : ℕ) (p : List Stage) → y ≤ before + total p
-      → (y ≤ end-from before p y) × ((e : ℕ) → End before p e → y ≤ e → end-from before p y ≤ e)
-  unfolding End total end-from
-  first-from before [] l = (omega arith, λ e m k. absurd m)
-  first-from before (s ∷ rest) l = go (decLt (before + s .size) y) (first-from (before + s .size) rest (omega arith))
-    where
-      go : Dec (before + s .size < y)
-          → (y ≤ end-from (before + s .size) rest y) × ((e : ℕ) → End (before + s .size) rest e → y ≤ e → end-from (before + s .size) rest y ≤ e)
-          → (y ≤ end-from before (s ∷ rest) y) × ((e : ℕ) → End before (s ∷ rest) e → y ≤ e → end-from before (s ∷ rest) y ≤ e)
-      go (yes k) t = rw (lt-ltb (before + s .size) y k) (t .0, λ e m q. ⊎-elim (λ h. absurd (omega arith)) (λ n. t .1 e n q) m)
-      go (no k) t = rw (le-ltb (before + s .size) y (omega arith)) (omega arith, λ e m q. ⊎-elim (λ h. omega arith) (λ n. later (before + s .size) rest e n) m)
+pub end-from-is : (p : List Stage) → 1 ≤ length p → (y : ℕ) → y ≤ total p → (y ≤ end-from 0 p y) × ((e : ℕ) → End 0 p e → y ≤ e → end-from 0 p y ≤ e)
+end-from-is p some y l = let t = next-end y 0 p (inr some) (omega arith) in (t .from, t .first)
 
-pub end-from-is : (p : List Stage) (y : ℕ) → y ≤ total p → (y ≤ end-from 0 p y) × ((e : ℕ) → End 0 p e → y ≤ e → end-from 0 p y ≤ e)
-end-from-is p y l = first-from y 0 p (omega arith)
+-- every end is within S units
+ends-within : (before : ℕ) (p : List Stage) (e : ℕ) → End before p e → e ≤ before + total p
+unfolding End total
+ends-within before (s ∷ rest) e (inl h) = omega arith
+ends-within before (s ∷ rest) e (inr m) = omega (arith, ends-within (before + s .size) rest e m)
 
 -- ---- undecided at the ends, and before the last unit
 
@@ -112,13 +99,15 @@ module _ (p : List Stage) (h : List ℕ) where
       let u : length (take n h) ≡ n = length-take-le n h w in
       rw (take-take y n h l) at (undecided-within p (take n h) y (omega arith) (λ z m k. omega (arith, same z m k)) e)
 
-  pub by-ends : ((e : ℕ) → End 0 p e → e < length h → earliest p (counts (take e h)) ≡ GoOn)
+  pub by-ends : 1 ≤ length p → ((e : ℕ) → End 0 p e → e < length h → earliest p (counts (take e h)) ≡ GoOn)
       → earliest p (counts (take (length h - 1) h)) ≡ GoOn → (y : ℕ) → y < length h → earliest p (counts (take y h)) ≡ GoOn
-  by-ends ends last y l = go (next-end 0 p y)
+  by-ends some ends last y l = go (decLt (total p) y)
     where
-      go : ((e : ℕ) → End 0 p e → e < y) ⊎ Next 0 p y → earliest p (counts (take y h)) ≡ GoOn
-      go (inl f) = undecided-to y (length h - 1) (omega arith) (omega arith) (λ e m k. absurd (omega (arith, f e m))) last
-      go (inr t) = elim (decLt (t .end) (length h)) [
-        | yes k ↦ undecided-to y (t .end) (t .from) (omega arith) (t .first) (ends (t .end) (t .is) k)
-        | no k ↦ undecided-to y (length h - 1) (omega arith) (omega arith) (λ e m q. omega (arith, t .first e m q)) last
-      ]
+      go : Dec (total p < y) → earliest p (counts (take y h)) ≡ GoOn
+      go (yes k) = undecided-to y (length h - 1) (omega arith) (omega arith) (λ e m q. absurd (omega (arith, ends-within 0 p e m))) last
+      go (no k) =
+          let t = next-end y 0 p (inr some) (omega arith) in
+          elim (decLt (end-from 0 p y) (length h)) [
+            | yes m ↦ undecided-to y (end-from 0 p y) (t .from) (omega arith) (t .first) (ends (end-from 0 p y) (t .is) m)
+            | no m ↦ undecided-to y (length h - 1) (omega arith) (omega arith) (λ e r q. omega (arith, t .first e r q)) last
+          ]
