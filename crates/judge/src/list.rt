@@ -35,7 +35,7 @@ fn are_classes(list: &[u8]) -> bool
         }
         i += 1;
     }
-    greatest <= 2
+    greatest <= plan::HIGHEST_CLASS as u8
 }
 
 pub fn judge(plan: &[u32], list: &[u8]) -> Judged

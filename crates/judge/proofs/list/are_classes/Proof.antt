@@ -49,4 +49,5 @@ are-classes-spec =
     (λ c. search needs)
     (λ c. search needs)
     loop-again
+    (λ c. search needs)
     returns)
