@@ -14,7 +14,7 @@ use Rattle.plan.specs.declared.counts.Counts.{Counts}
 use Rattle.plan.specs.declared.stage.Answer.{Answer}
 use Rattle.plan.specs.declared.stage.Answer.the-variants.{GoOn, Accept, Reject}
 use Rattle.plan.specs.declared.ways.StageWay.the-variants.{Full}
-use Rattle.plan.specs.Plan.{Stage, stages, first, total, admitted, each}
+use Rattle.plan.specs.Plan.{Stage, stages, first, total, admitted, each, apart, last}
 use Rattle.plan.specs.Counts.{units, nongood, nonbad, add-units}
 use Rattle.plan.specs.Stopping.{or-else, rejects, accepts, decide, at-end, full-at, at-filled, settled, staged, earliest}
 use Rattle.plan.specs.Promise.{One-stage}
@@ -144,7 +144,7 @@ unfolding staged total
 past-one s c u = current-past full-at 0 (s ∷ []) c (omega arith)
 
 pub one-stage-words : (w : List ℕ) → admitted w ≡ true → length w ≡ 5 → One-stage w
-unfolding first each
+unfolding first each apart last
 one-stage-words w e n =
     let t = tests w e in
     let s : Stage = first w in

@@ -1,6 +1,6 @@
 -- Answers in order, Reject below GoOn below Accept, and what keeps the order: a better sample has no worse answer.
 -- Assumes nothing.
-use Prim.Native.Nat.{ℕ, _≤_}
+use Prim.Native.Nat.{_≤_}
 use mathlib.Core.Path.{_≡_, refl, ap₂}
 use mathlib.Core.Logic.{_⊎_}
 use mathlib.Core.Bool.{true, false}

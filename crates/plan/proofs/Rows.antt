@@ -28,6 +28,7 @@ none-left (s ∷ rest) = false
 
 rises : (row : Stage → ℕ) (s t : Stage) (rest : List Stage) →
     last-step-rises row (s ∷ t ∷ rest) ≡ (cond (none-left rest) (ltb (row s) (row t)) true && last-step-rises row (t ∷ rest))
+unfolding last-step-rises
 rises row s t [] = sym (and-true _)
 rises row s t (u ∷ rest) = refl
 
@@ -60,7 +61,7 @@ module _ (before : ℕ) (s t : Stage) (rest : List Stage) where
 
   row-more : (a r : Stage → ℕ) → row-rules a r before (s ∷ t ∷ rest) ≡
       (row-step (a s) (r s) (a t) (r t) (before + s .size) (none-left rest) && row-rules a r (before + s .size) (t ∷ rest))
-  unfolding total
+  unfolding total row-rules row-step apart below-ends last never-falls
   row-more a r = rw (rises a s t rest, ← add-assoc before (s .size) (total (t ∷ rest)))
       (row-sorted (leb (a s) (a t)) (never-falls a (t ∷ rest)) (cond (none-left rest) (ltb (a s) (a t)) true) (last-step-rises a (t ∷ rest))
       (leb (r s) (r t)) (never-falls r (t ∷ rest)) (ltb (a s + 1) (r s)) (apart a r (t ∷ rest))
@@ -70,7 +71,7 @@ module _ (before : ℕ) (s t : Stage) (rest : List Stage) where
       ((leb 1 (s .size) && row-step (s .accept1) (s .reject1) (t .accept1) (t .reject1) (before + s .size) (none-left rest) &&
       row-step (s .accept2) (s .reject2) (t .accept2) (t .reject2) (before + s .size) (none-left rest) &&
       leb (s .accept2) (s .accept1) && leb (s .reject2) (s .reject1)) && rules (before + s .size) (t ∷ rest))
-  unfolding rules total last-reject1 each
+  unfolding rules total last-reject1 each last
   rules-more = rw (row-more a1 r1, row-more a2 r2, ← add-assoc before (s .size) (total (t ∷ rest)))
       (all-sorted (leb 1 (s .size)) (each (λ (u : Stage). leb 1 (u .size)) (t ∷ rest)) (leb (end + total (t ∷ rest)) 1000) (leb (last r1 (t ∷ rest)) 60)
       (step a1 r1) (row-rules a1 r1 end (t ∷ rest)) (step a2 r2) (row-rules a2 r2 end (t ∷ rest))
@@ -80,5 +81,5 @@ pub rules-one : (before : ℕ) (s : Stage) → rules before (s ∷ []) ≡
     (leb 1 (s .size) && leb (before + s .size) 1000 && leb (s .reject1) 60 &&
     row-end (s .accept1) (s .reject1) (before + s .size) && row-end (s .accept2) (s .reject2) (before + s .size) &&
     leb (s .accept2) (s .accept1) && leb (s .reject2) (s .reject1))
-unfolding rules total last-reject1 each
+unfolding rules total last-reject1 each last never-falls last-step-rises apart below-ends row-rules row-end
 rules-one before s = simp (and-true, add-zero)

@@ -18,11 +18,13 @@ use Rattle.plan.proofs.Limits.{all-stages, tests, Sound, limits}
 
 -- what holds of a row at each stage holds at the last
 last-of : (row : Stage → ℕ) (Q : ℕ → Type 0) (before : ℕ) (p : List Stage) → 1 ≤ length p → Each (λ end s. Q (row s)) before p → Q (last row p)
+unfolding last
 last-of row Q before [] n e = absurd (omega arith)
 last-of row Q before (s ∷ []) n e = e .0
 last-of row Q before (s ∷ t ∷ rest) n e = last-of row Q (before + s .size) (t ∷ rest) (omega arith) (e .1)
 
 lasts : (row row′ : Stage → ℕ) (before : ℕ) (p : List Stage) → Each (λ end s. leb (row s) (row′ s) ≡ true) before p → last row p ≤ last row′ p
+unfolding last
 lasts row row′ before [] e = omega arith
 lasts row row′ before (s ∷ []) e = leb-true _ _ (e .0)
 lasts row row′ before (s ∷ t ∷ rest) e = lasts row row′ (before + s .size) (t ∷ rest) (e .1)
@@ -33,10 +35,12 @@ some-units before [] n e = absurd (omega arith)
 some-units before (s ∷ rest) n e = omega (arith, e .0 .size)
 
 last-later : (row : Stage → ℕ) (s : Stage) (p : List Stage) → 1 ≤ length p → last row (s ∷ p) ≡ last row p
+unfolding last
 last-later row s [] n = absurd (omega arith)
 last-later row s (t ∷ p) n = refl
 
 last-only : (row : Stage → ℕ) (s : Stage) (p : List Stage) → length p ≡ 0 → last row (s ∷ p) ≡ row s
+unfolding last
 last-only row s [] n = refl
 last-only row s (t ∷ p) n = absurd (omega arith)
 

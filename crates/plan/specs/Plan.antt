@@ -54,30 +54,30 @@ unfoldable pub each : (Stage → Bool) → List Stage → Bool
 each test [] = true
 each test (s ∷ rest) = test s && each test rest
 
-abbrev pub never-falls : (Stage → ℕ) → List Stage → Bool
+unfoldable pub never-falls : (Stage → ℕ) → List Stage → Bool
 never-falls row [] = true
 never-falls row (s ∷ []) = true
 never-falls row (s ∷ t ∷ rest) = leb (row s) (row t) && never-falls row (t ∷ rest)
 
 -- one stage has no step
-abbrev pub last-step-rises : (Stage → ℕ) → List Stage → Bool
+unfoldable pub last-step-rises : (Stage → ℕ) → List Stage → Bool
 last-step-rises row [] = true
 last-step-rises row (s ∷ []) = true
 last-step-rises row (s ∷ t ∷ []) = ltb (row s) (row t)
 last-step-rises row (s ∷ t ∷ u ∷ rest) = last-step-rises row (t ∷ u ∷ rest)
 
 -- a + 1 < r before the last stage, a + 1 = r at the last
-abbrev pub apart : (Stage → ℕ) → (Stage → ℕ) → List Stage → Bool
+unfoldable pub apart : (Stage → ℕ) → (Stage → ℕ) → List Stage → Bool
 apart a r [] = true
 apart a r (s ∷ []) = eqb (a s + 1) (r s)
 apart a r (s ∷ t ∷ rest) = ltb (a s + 1) (r s) && apart a r (t ∷ rest)
 
 -- a < Si at each stage, where the stages come after `before` units
-abbrev pub below-ends : (Stage → ℕ) → ℕ → List Stage → Bool
+unfoldable pub below-ends : (Stage → ℕ) → ℕ → List Stage → Bool
 below-ends a before [] = true
 below-ends a before (s ∷ rest) = ltb (a s) (before + s .size) && below-ends a (before + s .size) rest
 
-abbrev pub last : (Stage → ℕ) → List Stage → ℕ
+unfoldable pub last : (Stage → ℕ) → List Stage → ℕ
 last row [] = 0
 last row (s ∷ []) = row s
 last row (s ∷ t ∷ rest) = last row (t ∷ rest)
@@ -89,7 +89,7 @@ unfoldable pub last-reject2 : List Stage → ℕ
 last-reject2 = last (λ (s : Stage). s .reject2)
 
 -- the rules on one row of acceptance numbers a and rejection numbers r
-abbrev pub row-rules : (Stage → ℕ) → (Stage → ℕ) → ℕ → List Stage → Bool
+unfoldable pub row-rules : (Stage → ℕ) → (Stage → ℕ) → ℕ → List Stage → Bool
 row-rules a r before p =
     never-falls a p &&
     last-step-rises a p &&

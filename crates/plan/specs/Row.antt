@@ -5,9 +5,9 @@ use mathlib.Core.Bool.{Bool, true, cond, _&&_}
 use lib.Dec.{leb, ltb, eqb}
 
 -- a stage with one after it, whose numbers are a′ and r′ and which is the last or not
-abbrev pub row-step : (a r a′ r′ end : ℕ) → Bool → Bool
+unfoldable pub row-step : (a r a′ r′ end : ℕ) → Bool → Bool
 row-step a r a′ r′ end last = leb a a′ && cond last (ltb a a′) true && leb r r′ && ltb (a + 1) r && ltb a end
 
 -- the last stage
-abbrev pub row-end : (a r end : ℕ) → Bool
+unfoldable pub row-end : (a r end : ℕ) → Bool
 row-end a r end = eqb (a + 1) r && ltb a end && leb r end

@@ -2,22 +2,28 @@
 use mathlib.Core.Bool.{and-false, and-true}
 use borrow.Author.Needs.{needs}
 use borrow.Author.Tests.{lt-ltb, le-ltb, le-leb, lt-leb}
+use Rattle.plan.specs.Row.{row-step}
 use Rattle.plan.proofs.admission.row_step.Statement.{statement}
 use Rattle.plan.proofs.admission.row_step.Tie as tie
 
 returns : tie.Need-returns
+unfolding row-step
 returns c = simp (le-ltb _ _ (c .if1 .taken), and-false)
 
 returns-2 : tie.Need-returns-2
+unfolding row-step
 returns-2 c = simp (le-ltb _ _ (c .if2 .taken), and-false)
 
 returns-3 : tie.Need-returns-3
+unfolding row-step
 returns-3 c = simp (lt-leb _ _ (c .if3 .taken), and-false)
 
 returns-4 : tie.Need-returns-4
+unfolding row-step
 returns-4 c = simp (lt-leb _ _ (c .if4 .taken))
 
 returns-5 : tie.Need-returns-5
+unfolding row-step
 returns-5 c =
     let b = c .before .before in
     simp (
@@ -30,6 +36,7 @@ returns-5 c =
     )
 
 returns-6 : tie.Need-returns-6
+unfolding row-step
 returns-6 c =
     let b = c .before .before in
     simp (
