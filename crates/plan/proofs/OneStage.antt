@@ -18,7 +18,8 @@ use Rattle.plan.specs.Plan.{Stage, stages, first, total, admitted, each,
 use Rattle.plan.specs.Counts.{units, nongood, nonbad, add-units}
 use Rattle.plan.specs.Stopping.{or-else, rejects, accepts, decide, at-end, full-at, at-filled, settled, staged, earliest}
 use Rattle.plan.specs.Promise.{One-stage}
-use Rattle.plan.proofs.Bools.{true-not-false, and-left}
+use Rattle.plan.proofs.Bools.{and-left}
+use Rattle.plan.proofs.Answers.{accept-stops}
 use Rattle.plan.proofs.Decide.{decided-reject, decided-accept, decided-on, when-reject, when-accept, when-on}
 use Rattle.plan.proofs.StageTests.{rejects-from, rejects-reaches, rejects-same, not-rejects-below, not-rejects-is, fewer-accepted}
 use Rattle.plan.proofs.Ends.{current-here, current-past, end-past, end-due}
@@ -58,7 +59,7 @@ module _ (s : Stage) (n : ℕ) (sound : Sound n s) (last : Decides s) (c : Count
   best-same : rejects s (add-units 0 (n - units c) c) ≡ rejects s c
   best-same = rejects-same s c best (rw add-good refl) (rw add-good refl)
 
-  -- full is rejection now and acceptance of the worst case, which is accepted exactly if it is not rejected
+  -- full is rejection now and acceptance of the worst case
   full-is : full-at n s c ≡ decide (rejects s c) (accepts s (worst .bad) (nongood worst))
   unfolding full-at
   full-is = ap (decide (rejects s c)) (sym (ap₂ (accepts s) worst-bad worst-nongood))
@@ -88,26 +89,20 @@ module _ (s : Stage) (n : ℕ) (sound : Sound n s) (last : Decides s) (c : Count
 
   goes-on-if : (full-at n s c ≡ GoOn)
       ↔ ((c .bad < s .reject2) × (nongood c < s .reject1) × ((nonbad c + s .reject2 ≤ n) ⊎ (c .good + s .reject1 ≤ n)))
-  goes-on-if = (to, from)
+  goes-on-if = (to, λ h. from h (full-at n s c) refl)
     where
-      short : (b : Bool) → rejects s worst ≡ b → accepts s (worst .bad) (nongood worst) ≡ false → (nonbad c + s .reject2 ≤ n) ⊎ (c .good + s .reject1 ≤ n)
-      short false e f = absurd (true-not-false (sym (last worst e) ∙ f))
-      short true e f = ⊎-elim (λ k. inr (omega (arith, worst-nongood, sound .reject1))) (λ k. inl (omega (arith, worst-bad, sound .reject2))) (rejects-reaches s worst e)
+      short : full-at n s c ≡ GoOn → Dec (n < nonbad c + s .reject2) → Dec (n < c .good + s .reject1) → (nonbad c + s .reject2 ≤ n) ⊎ (c .good + s .reject1 ≤ n)
+      short e (no k) d = inl (omega arith)
+      short e (yes k) (no m) = inr (omega arith)
+      short e (yes k) (yes m) = absurd (accept-stops (sym (accepts-if .1 (k, m)) ∙ e))
 
       to : full-at n s c ≡ GoOn → (c .bad < s .reject2) × (nongood c < s .reject1) × ((nonbad c + s .reject2 ≤ n) ⊎ (c .good + s .reject1 ≤ n))
-      to e =
-          let t = when-on _ _ (sym full-is ∙ e) in
-          let r = not-rejects-is s c (t .0) in
-          (r .0, r .1, short _ refl (t .1))
+      to e = let r = not-rejects-is s c (when-on _ _ (sym full-is ∙ e) .0) in (r .0, r .1, short e (decLt _ _) (decLt _ _))
 
-      accepted-not : (b : Bool) → accepts s (worst .bad) (nongood worst) ≡ b → (nonbad c + s .reject2 ≤ n) ⊎ (c .good + s .reject1 ≤ n) → accepts s (worst .bad) (nongood worst) ≡ false
-      accepted-not false e k = e
-      accepted-not true e k =
-          let t = not-rejects-is s worst (sound .not-both worst e) in
-          absurd (⊎-elim (λ q. omega (arith, t .0, worst-bad)) (λ q. omega (arith, t .1, worst-nongood)) k)
-
-      from : (c .bad < s .reject2) × (nongood c < s .reject1) × ((nonbad c + s .reject2 ≤ n) ⊎ (c .good + s .reject1 ≤ n)) → full-at n s c ≡ GoOn
-      from h = full-is ∙ decided-on _ _ (not-rejects-below s c (h .0) (h .1)) (accepted-not _ refl (h .2))
+      from : (c .bad < s .reject2) × (nongood c < s .reject1) × ((nonbad c + s .reject2 ≤ n) ⊎ (c .good + s .reject1 ≤ n)) → (a : Answer) → full-at n s c ≡ a → full-at n s c ≡ GoOn
+      from h GoOn e = e
+      from h Accept e = let t = accepts-if .0 e in absurd (⊎-elim (λ k. omega (arith, t .0)) (λ k. omega (arith, t .1)) (h .2))
+      from h Reject e = absurd (⊎-elim (λ k. omega (arith, h .1)) (λ k. omega (arith, h .0)) (rejects-if .0 e))
 
 agree : (s : Stage) → Sound (0 + s .size) s → Decides s → (c : Counts) → staged Full (s ∷ []) c ≡ earliest (s ∷ []) c
 unfolding staged earliest total

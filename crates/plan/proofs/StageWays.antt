@@ -36,16 +36,14 @@ module _ (s : Stage) where
   rejects-on : (n : ℕ) (c d : Counts) → More n c d → rejects s c ≡ true → at-end s d ≡ Reject
   rejects-on n c d m e = rejected s d (rejects-reaches s d (more-rejected s c d (m .bad-from) (m .nongood-from) e))
 
-  -- acceptance with the units left bad stays, where it excludes rejection
-  accepts-on : ((d : Counts) → accepts s (d .bad) (nongood d) ≡ true → rejects s d ≡ false) → (end : ℕ) (c d : Counts) → units c ≤ end → More (end - units c) c d
-      → accepts s (end - nonbad c) (end - c .good) ≡ true → at-end s d ≡ Accept
-  accepts-on not-both end c d u m e =
+  -- acceptance with the units left bad stays
+  accepts-on : (end : ℕ) → Sound end s → (c d : Counts) → units c ≤ end → More (end - units c) c d → accepts s (end - nonbad c) (end - c .good) ≡ true → at-end s d ≡ Accept
+  accepts-on end sound c d u m e =
       let f = fewer-accepted s (end - nonbad c) (end - c .good) (d .bad) (nongood d) (omega arith) (omega arith) e in
-      accepted s d (not-both d f) f
+      accepted s d (sound .not-both d f) f
 
   -- what a way says, with the units left it stays said at the stage's end
-  module _ (not-both : (d : Counts) → accepts s (d .bad) (nongood d) ≡ true → rejects s d ≡ false) (end : ℕ) (c d : Counts) (u : units c ≤ end) (m : More (end - units c) c d)
-      (v : Answer) (n : v ≢ GoOn) where
+  module _ (end : ℕ) (sound : Sound end s) (c d : Counts) (u : units c ≤ end) (m : More (end - units c) c d) (v : Answer) (n : v ≢ GoOn) where
     uncurtailed-stays : uncurtailed-at end s c ≡ v → at-end s d ≡ v
     uncurtailed-stays = go (eqb (units c) end) refl
       where
@@ -66,7 +64,7 @@ module _ (s : Stage) where
       where
         go : (r a : Bool) → rejects s c ≡ r → accepts s (end - nonbad c) (end - c .good) ≡ a → decide r a ≡ v → at-end s d ≡ v
         go true a e g f = rejects-on _ c d m e ∙ sym (decided-reject true a refl) ∙ f
-        go false true e g f = accepts-on not-both end c d u m g ∙ sym (decided-accept false true refl refl) ∙ f
+        go false true e g f = accepts-on end sound c d u m g ∙ sym (decided-accept false true refl refl) ∙ f
         go false false e g f = absurd (n (sym f ∙ decided-on false false refl refl))
 
     stays : (way : StageWay) → at-stage way end s c ≡ v → at-end s d ≡ v
@@ -124,7 +122,7 @@ module _ (way : StageWay) (x X : List ℕ) (y : ℕ) (w : y ≤ length x) (agree
           = rw u (rw (agree y (omega arith)) at (more-taken X y (before + s .size) (omega arith) (omega arith))) in
           let here = sym (current-here (at-stage way) before s rest (counts (take y x)) (omega arith)) ∙ e in
           ap (λ (a : Answer). or-else a (first-answer (λ end s. at-end s (counts (take end X))) (before + s .size) rest))
-          (stays s (k .0 .not-both) (before + s .size) (counts (take y x)) (counts (take (before + s .size) X)) (omega arith) more v n way here)
+          (stays s (before + s .size) (k .0) (counts (take y x)) (counts (take (before + s .size) X)) (omega arith) more v n way here)
           ∙ or-else-first v _ n
       go (yes m) later =
           let u = units-taken x (before + s .size) (omega arith) in
