@@ -149,4 +149,5 @@ module _ (w : List ℕ) (s : Contents) (size : size-ok w ≡ true) (r : read w �
       whole = ap is-some chain-is;
       answered = ap (lot-answer w) (sym lot-is);
       counted = ap (λ (k : Lot). counts (history k)) (sym lot-is);
+      few = few-units;
     }

@@ -7,7 +7,7 @@ use mathlib.Core.List.{List, []}
 use lib.ListN.{length}
 use Rattle.plan.specs.declared.counts.Counts.{Counts}
 use Rattle.plan.specs.declared.stage.Answer.{Answer}
-use Rattle.plan.specs.Counts.{counts}
+use Rattle.plan.specs.Counts.{counts, units}
 use Rattle.sheetmodel.specs.Layout.{least-size, greatest-size, word, field, newest, first-free, first-record, good-units, marginal-units, bad-units}
 use Rattle.sheetmodel.specs.Contents.{Inspection, Lot, history}
 use Rattle.sheetmodel.specs.Read.{serial-at, depth, read-inspections}
@@ -72,3 +72,4 @@ pub record Closing (w : List ℕ) (at before : ℕ) (answer : Answer) (c : Count
   pub whole : is-some (read-chain w at (serial-at w (newest w at)) (newest w at)) ≡ true
   pub answered : answer ≡ lot-answer w (lot-at w at)
   pub counted : c ≡ counts (history (lot-at w at))
+  pub few : units c ≤ 1000

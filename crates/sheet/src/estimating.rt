@@ -4,7 +4,6 @@ use crate::locating::Located;
 use crate::locating::locate_lot;
 use crate::progress::answer_to;
 use crate::progress::is_undecided;
-use crate::progress::units_of;
 use crate::record::field_of;
 use plan::Counts;
 use sheetmodel::Estimate;
@@ -51,7 +50,7 @@ pub fn estimate(sheet: &[u32], lot: u32) -> Estimated
                 good: c.good as u64,
                 marginal: c.marginal as u64,
                 bad: c.bad as u64,
-                over: units_of(c) as u64,
+                over: plan::units(c) as u64,
             })
         }
     }

@@ -5,7 +5,6 @@ use crate::locating::Located;
 use crate::locating::locate_lot;
 use crate::progress::answer_to;
 use crate::progress::is_undecided;
-use crate::progress::units_of;
 use crate::writing::add_inspection;
 use sheetmodel::Done;
 ghost use mathlib.Core.Path.{_≡_};
@@ -27,7 +26,7 @@ pub fn inspect(sheet: &mut [u32], lot: u32, class: u32) -> Done
             match grant_record(sheet) {
                 Grant::Refused(n) => Done::Refused(n),
                 Grant::Record => {
-                    add_inspection(sheet, f.at, units_of(f.counts), class);
+                    add_inspection(sheet, f.at, plan::units(f.counts), class);
                     Done::Ok
                 }
             }

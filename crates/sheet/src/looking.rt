@@ -8,7 +8,6 @@ use crate::locating::Located;
 use crate::locating::locate;
 use crate::locating::locate_lot;
 use crate::progress::answer_to;
-use crate::progress::units_of;
 use sheetmodel::Looked;
 use sheetmodel::Shown;
 use sheetmodel::Tallied;
@@ -23,7 +22,7 @@ pub fn look(sheet: &[u32], lot: u32) -> Looked
         Located::Refused(n) => Looked::Refused(n),
         Located::At(f) => Looked::Shown(Shown {
             answer: answer_to(sheet, f.counts),
-            units: units_of(f.counts),
+            units: plan::units(f.counts),
             good: f.counts.good,
             marginal: f.counts.marginal,
             bad: f.counts.bad,

@@ -12,13 +12,6 @@ ghost use Rattle.plan.specs.Stopping.{earliest};
 ghost use Rattle.sheetmodel.specs.Layout.{least-size, plan-words};
 ghost use Rattle.sheetmodel.specs.Read.{undecided};
 
-pub fn units_of(c: Counts) -> u32
-    requires { ⌜ units c ≤ 1000 ⌝ }
-    ensures { λ r. ⌜ r ≡ units c ⌝ }
-{
-    c.good + c.marginal + c.bad
-}
-
 pub fn answer_to(sheet: &[u32], c: Counts) -> Answer
     requires { ⌜ (least-size ≤ length (now sheet)) × (admitted (plan-words (now sheet)) ≡ true) × (units c ≤ 1000) ⌝ }
     ensures { λ r. ⌜ r ≡ earliest (stages (plan-words (now (sheet .entry)))) c ⌝ }

@@ -1,7 +1,6 @@
 // The call strike: a lot's newest inspection taken away. Document 01, "Sheet" and "Refused".
 use crate::locating::Located;
 use crate::locating::locate_lot;
-use crate::progress::units_of;
 use crate::writing::remove_newest;
 use sheetmodel::Done;
 ghost use mathlib.Core.Path.{_≡_};
@@ -14,7 +13,7 @@ pub fn strike(sheet: &mut [u32], lot: u32) -> Done
     match locate_lot(sheet, lot) {
         Located::Refused(n) => Done::Refused(n),
         Located::At(f) => {
-            if units_of(f.counts) == 0 {
+            if plan::units(f.counts) == 0 {
                 return Done::Refused(9);
             }
             remove_newest(sheet, f.at);

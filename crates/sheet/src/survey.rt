@@ -55,10 +55,10 @@ fn is_lot(sheet: &[u32], first: u32, above: u32, at: u32) -> bool
 
 // What is found so far, with the lot in the record `at`, of this number and these units, more.
 fn with_lot_found(sought: u32, f: Found, at: u32, number: u32, c: Counts) -> Found
-    requires { ⌜ f .used + (1 + units c) ≤ 4294967295 ⌝ }
+    requires { ⌜ (units c ≤ 1000) × (f .used + (1 + units c) ≤ 4294967295) ⌝ }
     ensures { λ r. ⌜ r ≡ with-lot-found sought f at number c ⌝ }
 {
-    let used = f.used + (1 + (c.good + c.marginal + c.bad));
+    let used = f.used + (1 + plan::units(c));
     let mut next = f;
     next.used = used;
     if number < sought {

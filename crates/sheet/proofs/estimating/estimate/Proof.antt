@@ -66,8 +66,8 @@ older : (c : tie.After-without-unit) → let k = c .before .before .before .befo
     c .without-unit .result ≡ without-unit (field (x .args .sheet .now) (newest (x .args .sheet .now) (k .before .f .given .0 .0 .at)) 0) (k .before .f .given .0 .0 .counts)
 older c = rw (sym (c .before .before .field-of .ensures), sym (c .before .field-of2 .ensures)) (c .without-unit .ensures)
 
-units-of-requires : tie.Need-units-of-requires
-units-of-requires c κs =
+units-requires : tie.Need-units-requires
+units-requires c κs =
     let k = c .before .before .before .before .before .before .before .before .before .before .before in
     let x = k .before .before .before .before .before in
     let f = k .before .f .given .0 .0 in
@@ -84,7 +84,7 @@ returns-4 c =
     let k = c .before .before .before .before .before .before .before .before .before .before .before .before in
     let x = k .before .before .before .before .before in
     let f = k .before .f .given .0 .0 in
-    rw (estimate-granted (x .args .lot) (x .args .sheet .now) f (facts k) (sym (ap undecided (c .before .before .before .before .before .before .before .before .before .before .before .answer-to .ensures)) ∙ sym (c .before .before .before .before .before .before .before .before .before .before .is-undecided .ensures) ∙ c .before .before .before .before .before .before .before .before .before .if1 .left) (c .before .before .before .before .before .before .before .if2 .left) (c .before .before .before .before .without-unit .result) (older (c .before .before .before .before))) (rw (c .units-of .ensures) refl)
+    rw (estimate-granted (x .args .lot) (x .args .sheet .now) f (facts k) (sym (ap undecided (c .before .before .before .before .before .before .before .before .before .before .before .answer-to .ensures)) ∙ sym (c .before .before .before .before .before .before .before .before .before .before .is-undecided .ensures) ∙ c .before .before .before .before .before .before .before .before .before .if1 .left) (c .before .before .before .before .before .before .before .if2 .left) (c .before .before .before .before .without-unit .result) (older (c .before .before .before .before))) (rw (c .units .ensures) refl)
 
 pub estimate-spec : {M : Type 1} → statement M
 estimate-spec =
@@ -104,7 +104,7 @@ estimate-spec =
     (λ c. search needs)
     (λ c. search needs)
     (λ c. search needs)
-    units-of-requires
+    units-requires
     (λ c. search needs)
     returns-3
     returns-4)

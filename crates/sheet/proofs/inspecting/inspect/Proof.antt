@@ -49,8 +49,8 @@ grant-record-requires c κs =
     let x = k .before .before .before .before .before .before in
     long (x .args .lot) (x .args .sheet .now) (k .before .f .given .0 .0) (facts k)
 
-units-of-requires : tie.Need-units-of-requires
-units-of-requires c κs =
+units-requires : tie.Need-units-requires
+units-requires c κs =
     let d = c .before .before .before .before .before in
     let k = d .before .before .before .before .before in
     let x = k .before .before .before .before .before .before in
@@ -63,7 +63,7 @@ add-inspection-requires c κs =
     let d = g .before .before in
     let k = d .before .before .before .before .before in
     let x = k .before .before .before .before .before .before in
-    rw (c .units-of .ensures) (inspect-requires (x .args .lot) (x .args .class) (x .args .sheet .now) (k .before .f .given .0 .0) (facts k) (sym (g .grant-record .ensures) ∙ m .enum-told .given .1))
+    rw (c .units .ensures) (inspect-requires (x .args .lot) (x .args .class) (x .args .sheet .now) (k .before .f .given .0 .0) (facts k) (sym (g .grant-record .ensures) ∙ m .enum-told .given .1))
 
 returns-3 : tie.Need-returns-3
 returns-3 c =
@@ -89,7 +89,7 @@ returns-5 c =
     let k = d .before .before .before .before .before in
     let x = k .before .before .before .before .before .before in
     rw (inspect-granted (x .args .lot) (x .args .class) (x .args .sheet .now) (k .before .f .given .0 .0) (facts k) (d .before .before .before .before .if1 .left) (goes-on d) (sym (g .grant-record .ensures) ∙ m .enum-told .given .1))
-    (refl, rw (c .before .before .before .units-of .ensures) at (c .before .before .add-inspection .ensures))
+    (refl, rw (c .before .before .before .units .ensures) at (c .before .before .add-inspection .ensures))
 
 pub inspect-spec : {M : Type 1} → statement M
 inspect-spec =
@@ -107,7 +107,7 @@ inspect-spec =
     grant-record-requires
     (λ c. search needs)
     (λ c. search needs)
-    units-of-requires
+    units-requires
     add-inspection-requires
     (λ c. search needs)
     returns-3

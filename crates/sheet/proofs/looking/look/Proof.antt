@@ -20,8 +20,8 @@ answer-to-requires c κs =
     let f = k .before .f .given .0 .0 in
     answer-requires (x .args .lot) (x .args .sheet .now) f (facts k)
 
-units-of-requires : tie.Need-units-of-requires
-units-of-requires c κs =
+units-requires : tie.Need-units-requires
+units-requires c κs =
     let k = c .before in
     let x = k .before .before .before .before .before in
     let f = k .before .f .given .0 .0 in
@@ -38,7 +38,7 @@ returns-2 c =
     let k = c .before .before in
     let x = k .before .before .before .before .before in
     let f = k .before .f .given .0 .0 in
-    rw (look-shown (x .args .lot) (x .args .sheet .now) f (facts k)) (rw (c .units-of .ensures, c .before .answer-to .ensures) refl)
+    rw (look-shown (x .args .lot) (x .args .sheet .now) f (facts k)) (rw (c .units .ensures, c .before .answer-to .ensures) refl)
 
 pub look-spec : {M : Type 1} → statement M
 look-spec =
@@ -48,6 +48,6 @@ look-spec =
     (λ c. search needs)
     (λ c. search needs)
     answer-to-requires
-    units-of-requires
+    units-requires
     returns
     returns-2)

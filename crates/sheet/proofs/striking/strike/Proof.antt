@@ -13,8 +13,8 @@ facts c =
     let f = c .before .f .given in
     with-lot (x .args .lot) (x .args .sheet .now) (f .0 .0) (sym (c .before .before .before .locate-lot .ensures) ∙ f .1)
 
-units-of-requires : tie.Need-units-of-requires
-units-of-requires c κs =
+units-requires : tie.Need-units-requires
+units-requires c κs =
     let k = c in
     let x = k .before .before .before .before .before .before in
     let f = k .before .f .given .0 .0 in
@@ -25,14 +25,14 @@ returns c =
     let k = c .before .before in
     let x = k .before .before .before .before .before .before in
     let f = k .before .f .given .0 .0 in
-    rw (strike-none (x .args .lot) (x .args .sheet .now) f (facts k) (sym (c .before .units-of .ensures) ∙ c .if1 .taken)) (refl, refl)
+    rw (strike-none (x .args .lot) (x .args .sheet .now) f (facts k) (sym (c .before .units .ensures) ∙ c .if1 .taken)) (refl, refl)
 
 remove-newest-requires : tie.Need-remove-newest-requires
 remove-newest-requires c κs =
     let k = c .before .before .before in
     let x = k .before .before .before .before .before .before in
     let f = k .before .f .given .0 .0 in
-    strike-requires (x .args .lot) (x .args .sheet .now) f (facts k) (λ e. c .before .if1 .left (c .before .before .units-of .ensures ∙ e))
+    strike-requires (x .args .lot) (x .args .sheet .now) f (facts k) (λ e. c .before .if1 .left (c .before .before .units .ensures ∙ e))
 
 returns-2 : tie.Need-returns-2
 returns-2 c =
@@ -45,7 +45,7 @@ returns-3 c =
     let k = c .before .before .before .before .before .before in
     let x = k .before .before .before .before .before .before in
     let f = k .before .f .given .0 .0 in
-    rw (strike-granted (x .args .lot) (x .args .sheet .now) f (facts k) (λ e. c .before .before .before .before .if1 .left (c .before .before .before .before .before .units-of .ensures ∙ e))) (refl, c .before .before .remove-newest .ensures)
+    rw (strike-granted (x .args .lot) (x .args .sheet .now) f (facts k) (λ e. c .before .before .before .before .if1 .left (c .before .before .before .before .before .units .ensures ∙ e))) (refl, c .before .before .remove-newest .ensures)
 
 pub strike-spec : {M : Type 1} → statement M
 strike-spec =
@@ -54,7 +54,7 @@ strike-spec =
     (λ c κs. search needs)
     (λ c. search needs)
     (λ c. search needs)
-    units-of-requires
+    units-requires
     (λ c. search needs)
     returns
     remove-newest-requires

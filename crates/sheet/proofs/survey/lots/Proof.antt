@@ -84,7 +84,7 @@ lot-units c =
 with-lot-found-requires : tie.Need-with-lot-found-requires Inv-loop μ-loop
 with-lot-found-requires c κs =
     let s = c .before .before .before .before .before .before .before .before .before .before .before .before .before .before .before .before in
-    omega (arith, lot-units c, s .pre .0 .short)
+    (lot-units c, omega (arith, lot-units c, s .pre .0 .short))
 
 loop-again : tie.Need-loop-again Inv-loop μ-loop
 loop-again c =
