@@ -18,10 +18,6 @@ use Rattle.export.specs.Laws.{Zero-exactly, Zero-law}
 
 -- ---- an answer that is no refusal with the number 0
 
-of-reply : (r : Reply) → r ≢ refused 0 → Zero-exactly r
-of-reply (granted values) not = (λ e. tt, λ g. refl)
-of-reply (refused n) not = (λ e. not (ap refused e), λ g. absurd g)
-
 of-done : (d : Done) → d ≢ done.Refused 0 → Zero-exactly (done-reply d)
 of-done done.Ok not = (λ e. tt, λ g. refl)
 of-done (done.Refused n) not = (λ e. not (ap done.Refused e), λ g. absurd g)
