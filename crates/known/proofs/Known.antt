@@ -2,7 +2,7 @@
 use mathlib.Core.Path.{_≡_, refl}
 use Rattle.plan.specs.Plan.{stages, total, each, never-falls, last-step-rises, apart, below-ends, last, last-reject1, last-reject2, row-rules, rules, admitted}
 use Rattle.plan.specs.Counts.{add-units, counts-after, counts}
-use Rattle.plan.specs.Stopping.{rejects, accepts, decide, at-end, full-at, staged, earliest, answer}
+use Rattle.plan.specs.Stopping.{or-else, rejects, accepts, decide, at-end, uncurtailed-at, semi-at, full-at, current, at-stage, staged, first-answer, at-filled, completed, only-reject, settled, earliest, answer}
 use Rattle.plan.specs.Sample.{are-classes}
 use Rattle.plan.specs.Refusal.{first-refusal}
 use Rattle.judge.specs.Judge.{judged}
@@ -11,7 +11,7 @@ use Rattle.chance.specs.Reply.{chance-answer}
 use Rattle.known.specs.Known.{Known-lots}
 
 pub known-lots : Known-lots
-unfolding stages total each never-falls last-step-rises apart below-ends last last-reject1 last-reject2 row-rules rules admitted add-units counts-after counts rejects accepts decide at-end full-at staged earliest answer are-classes first-refusal judged low high chance-answer
+unfolding stages total each never-falls last-step-rises apart below-ends last last-reject1 last-reject2 row-rules rules admitted add-units counts-after counts or-else rejects accepts decide at-end uncurtailed-at semi-at full-at current at-stage staged first-answer at-filled completed only-reject settled earliest answer are-classes first-refusal judged low high chance-answer
 known-lots = record {
   a-0000 = refl;
   a-0001 = refl;

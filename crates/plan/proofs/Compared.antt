@@ -17,7 +17,7 @@ use Rattle.plan.specs.declared.ways.StageWay.{StageWay}
 use Rattle.plan.specs.declared.ways.StageWay.the-variants.{Semi, Full}
 use Rattle.plan.specs.Plan.{Stage, total}
 use Rattle.plan.specs.Counts.{units, counts}
-use Rattle.plan.specs.Stopping.{rejects, at-end, full-at, at-stage, current, staged}
+use Rattle.plan.specs.Stopping.{rejects, at-end, full-at, at-stage, current, staged, uncurtailed-at, semi-at}
 use Rattle.plan.specs.Sample.{Classes, Completion, All-have, Stops}
 use Rattle.plan.specs.Promise.{earliest-rule, staged-rule}
 use Rattle.plan.proofs.Answers.{accept-stops, reject-stops, accept-not-reject}
@@ -55,7 +55,7 @@ abbrev Alike : StageWay → StageWay → Type 0
 Alike a b = (end : ℕ) (s : Stage) (c : Counts) → at-stage a end s c ≡ Reject → at-stage b end s c ≡ Reject
 
 staged-alike : (a b : StageWay) → Alike a b → (p : List Stage) (c : Counts) → staged a p c ≡ Reject → staged b p c ≡ Reject
-unfolding staged
+unfolding staged current
 staged-alike a b f p c = go 0 p
   where
     pick : (t : Bool) (u v u′ v′ : Answer) → (u ≡ Reject → u′ ≡ Reject) → (v ≡ Reject → v′ ≡ Reject) → cond t u v ≡ Reject → cond t u′ v′ ≡ Reject
@@ -72,7 +72,7 @@ unfolding at-end
 end-rejects s c e = when-reject _ _ e
 
 semi-full : Alike Semi Full
-unfolding full-at
+unfolding full-at uncurtailed-at semi-at at-stage
 semi-full end s c e = decided-reject _ _ (go (rejects s c) (eqb (units c) end) refl e)
   where
     go : (r t : Bool) → rejects s c ≡ r → cond r Reject (cond t (at-end s c) GoOn) ≡ Reject → r ≡ true
@@ -81,7 +81,7 @@ semi-full end s c e = decided-reject _ _ (go (rejects s c) (eqb (units c) end) r
     go false false e f = absurd (reject-stops (sym f))
 
 full-semi : Alike Full Semi
-unfolding full-at
+unfolding full-at semi-at at-stage
 full-semi end s c e = rw (when-reject _ _ e)
 
 module _ (p : List Stage) (l : Limits p) (x : List ℕ) (c : Classes x) where

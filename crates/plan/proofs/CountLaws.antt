@@ -15,7 +15,7 @@ use Rattle.plan.specs.declared.ways.Way.{Way}
 use Rattle.plan.specs.declared.ways.Way.the-variants.{Staged, Earliest}
 use Rattle.plan.specs.Plan.{Stage, total, last-reject1, last-reject2}
 use Rattle.plan.specs.Counts.{units, nongood, add-units, counts}
-use Rattle.plan.specs.Stopping.{at-filled, completed, at-stage, staged, earliest, answer}
+use Rattle.plan.specs.Stopping.{at-filled, completed, at-stage, staged, earliest, answer, only-reject, settled}
 use Rattle.plan.specs.Promise.{Same-stage, rank, Worse, More}
 use Rattle.plan.proofs.Order.{at-end-mono, Better, undecided, undecided-ranks, settled-mono, rejected}
 use Rattle.plan.proofs.Counting.{add-good, add-bad, added, more-taken, units-counts, units-taken}
@@ -44,7 +44,7 @@ module _ (n : ℕ) (c d : Counts) (m : More n c d) where
       (at-end-mono s (add-units 0 (end - units c) c) (add-units 0 (end - units d) d) (rw (add-good, add-good) (omega arith))))
 
   pub undecided-sooner : (p : List Stage) → Each (λ end s. Same end) 0 p → earliest p d ≡ GoOn → earliest p c ≡ GoOn
-  unfolding earliest
+  unfolding earliest completed
   undecided-sooner p same e =
       let r = undecided-ranks (completed 2 0 p d) (completed 0 0 p d) e in
       undecided (completed 2 0 p c) (completed 0 0 p c)
@@ -74,6 +74,7 @@ module _ (c d : Counts) (w : Worse c d) where
       better (inr e) = rw (e, add-bad, add-bad) (omega arith)
 
   worse-completed : (class : ℕ) → (class ≡ 0) ⊎ (class ≡ 2) → (p : List Stage) → rank (completed class 0 p d) ≤ rank (completed class 0 p c)
+  unfolding completed
   worse-completed class k p = first-mono (λ end s. Unit {0}) (at-filled class d) (at-filled class c) (worse-filled class k) 0 p (each-end (λ end. Unit {0}) 0 p (λ e m. tt))
 
 pub no-better : (p : List Stage) (c d : Counts) → Worse c d → rank (earliest p d) ≤ rank (earliest p c)
@@ -90,13 +91,14 @@ module _ (p : List Stage) (l : Limits p) (c : Counts) (n : units c ≤ total p) 
       end-due class c end s u ∙ rejected s (add-units class (end - units c) c) (⊎-elim (λ k. inl (omega arith)) (λ k. inr (omega arith)) r)
 
   completed-rejects : (class : ℕ) → completed class 0 p c ≡ Reject
+  unfolding completed
   completed-rejects class =
       first-rejects (units c) (at-filled class c) 0 p
       (each-both _ _ _ (λ end s a b. (end-past class c end s, at-last class end s a b)) 0 p (l .at-most1) (l .at-most2))
       (inr (l .some-stage)) (omega arith)
 
   pub rejects : earliest p c ≡ Reject
-  unfolding earliest
+  unfolding earliest only-reject settled
   rejects = rw (completed-rejects 2, completed-rejects 0)
 
 -- ---- after S units
@@ -107,10 +109,11 @@ ends-past u before [] l = tt
 ends-past u before (s ∷ rest) l = (omega arith, ends-past u (before + s .size) rest (omega arith))
 
 completed-past : (class : ℕ) (p : List Stage) (c : Counts) → total p < units c → completed class 0 p c ≡ GoOn
+unfolding completed
 completed-past class p c l =
     first-same (λ end s. end < units c) (at-filled class c) (λ end s. GoOn) (end-past class c) 0 p (ends-past (units c) 0 p (omega arith)) ∙ first-on 0 p
 
 pub past : (p : List Stage) (way : Way) (c : Counts) → total p < units c → answer way p c ≡ GoOn
-unfolding staged earliest answer
+unfolding staged earliest answer only-reject settled
 past p (Staged way) c l = current-past (at-stage way) 0 p c (omega arith)
 past p Earliest c l = rw (completed-past 2 p c l, completed-past 0 p c l)

@@ -40,23 +40,27 @@ module _ (P Q R : ℕ → Stage → Type 0) (f : (end : ℕ) (s : Stage) → P e
 module _ (P : ℕ → Stage → Type 0) (f g : ℕ → Stage → Answer) where
   pub first-mono : ((end : ℕ) (s : Stage) → P end s → rank (f end s) ≤ rank (g end s))
       → (before : ℕ) (p : List Stage) → Each P before p → rank (first-answer f before p) ≤ rank (first-answer g before p)
+  unfolding first-answer
   first-mono m before [] e = omega arith
   first-mono m before (s ∷ rest) e =
       or-else-mono (f (before + s .size) s) (g (before + s .size) s) _ _ (m _ s (e .0)) (first-mono m (before + s .size) rest (e .1))
 
   pub first-same : ((end : ℕ) (s : Stage) → P end s → f end s ≡ g end s)
       → (before : ℕ) (p : List Stage) → Each P before p → first-answer f before p ≡ first-answer g before p
+  unfolding first-answer
   first-same m before [] e = refl
   first-same m before (s ∷ rest) e = ap₂ or-else (m _ s (e .0)) (first-same m (before + s .size) rest (e .1))
 
 -- an answer that does not go on comes first
 pub or-else-first : (v later : Answer) → v ≢ GoOn → or-else v later ≡ v
+unfolding or-else
 or-else-first GoOn later n = absurd (n refl)
 or-else-first Accept later n = refl
 or-else-first Reject later n = refl
 
 -- where no stage answers, none does
 pub first-on : (before : ℕ) (p : List Stage) → first-answer (λ end s. GoOn) before p ≡ GoOn
+unfolding or-else first-answer
 first-on before [] = refl
 first-on before (s ∷ rest) = first-on (before + s .size) rest
 
@@ -66,7 +70,7 @@ Rejects-from u f end s = (end < u → f end s ≡ GoOn) × (u ≤ end → f end 
 
 pub first-rejects : (u : ℕ) (f : ℕ → Stage → Answer) (before : ℕ) (p : List Stage) → Each (Rejects-from u f) before p
     → (before < u) ⊎ (1 ≤ length p) → u ≤ before + total p → first-answer f before p ≡ Reject
-unfolding total
+unfolding total or-else first-answer
 first-rejects u f before [] e (inl l) n = absurd (omega arith)
 first-rejects u f before [] e (inr l) n = absurd (omega arith)
 first-rejects u f before (s ∷ rest) e l n = go (decLt (before + s .size) u) (λ k. first-rejects u f (before + s .size) rest (e .1) (inl k) (omega arith))
@@ -81,13 +85,15 @@ first-rejects u f before (s ∷ rest) e l n = go (decLt (before + s .size) u) (�
 module _ (way : ℕ → Stage → Counts → Answer) where
   module _ (before : ℕ) (s : Stage) (rest : List Stage) (c : Counts) where
     pub current-here : units c ≤ before + s .size → current way before (s ∷ rest) c ≡ way (before + s .size) s c
+    unfolding current
     current-here l = rw (le-leb (units c) (before + s .size) l)
 
     pub current-later : before + s .size < units c → current way before (s ∷ rest) c ≡ current way (before + s .size) rest c
+    unfolding current
     current-later l = rw (lt-leb (units c) (before + s .size) l)
 
   pub current-past : (before : ℕ) (p : List Stage) (c : Counts) → before + total p < units c → current way before p c ≡ GoOn
-  unfolding total
+  unfolding total current
   current-past before [] c l = refl
   current-past before (s ∷ rest) c l = current-later before s rest c (omega arith) ∙ current-past (before + s .size) rest c (omega arith)
 
@@ -95,9 +101,11 @@ module _ (way : ℕ → Stage → Counts → Answer) where
 
 module _ (class : ℕ) (c : Counts) (end : ℕ) (s : Stage) where
   pub end-past : end < units c → at-filled class c end s ≡ GoOn
+  unfolding at-filled
   end-past l = rw (lt-ltb end (units c) l)
 
   pub end-due : units c ≤ end → at-filled class c end s ≡ at-end s (add-units class (end - units c) c)
+  unfolding at-filled
   end-due l = rw (le-ltb end (units c) l)
 
   pub end-case : (Q : Answer → Type 0) → (end < units c → Q GoOn) → (units c ≤ end → Q (at-end s (add-units class (end - units c) c))) → Q (at-filled class c end s)

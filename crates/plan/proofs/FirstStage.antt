@@ -10,22 +10,24 @@ use Rattle.plan.specs.declared.stage.Answer.the-variants.{GoOn}
 use Rattle.plan.specs.declared.ways.StageWay.{StageWay}
 use Rattle.plan.specs.Plan.{stages, first, end-below, end-from}
 use Rattle.plan.specs.Counts.{units}
-use Rattle.plan.specs.Stopping.{completed, at-filled, or-else, at-stage, current}
+use Rattle.plan.specs.Stopping.{completed, at-filled, or-else, at-stage, current, first-answer}
 use Rattle.plan.proofs.Ends.{current-here, current-later}
 use Rattle.plan.proofs.Stages.{after, stages-more, stages-none}
 
 module _ (w : List ℕ) (class before : ℕ) (c : Counts) where
   pub completed-none : length w < 5 → completed class before (stages w) c ≡ GoOn
+  unfolding first-answer completed
   completed-none h = rw (stages-none w h)
 
   -- v is the answer at the first stage's end
   pub completed-first : 5 ≤ length w → (v : Answer) → v ≡ at-filled class c (before + getD w 0 0) (first w) →
       completed class before (stages w) c ≡ or-else v (completed class (before + getD w 0 0) (stages (after w)) c)
-  unfolding first
+  unfolding first first-answer completed
   completed-first h v e = rw (stages-more w h, e)
 
 module _ (w : List ℕ) (way : StageWay) (before : ℕ) (c : Counts) where
   pub current-none : length w < 5 → current (at-stage way) before (stages w) c ≡ GoOn
+  unfolding current
   current-none h = rw (stages-none w h)
 
   pub current-first : 5 ≤ length w → units c ≤ before + getD w 0 0 →

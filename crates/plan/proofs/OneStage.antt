@@ -16,7 +16,7 @@ use Rattle.plan.specs.declared.stage.Answer.the-variants.{GoOn, Accept, 
 use Rattle.plan.specs.declared.ways.StageWay.the-variants.{Full}
 use Rattle.plan.specs.Plan.{Stage, stages, first, total, admitted, each, apart, last}
 use Rattle.plan.specs.Counts.{units, nongood, nonbad, add-units}
-use Rattle.plan.specs.Stopping.{or-else, rejects, accepts, decide, at-end, full-at, at-filled, settled, staged, earliest}
+use Rattle.plan.specs.Stopping.{or-else, rejects, accepts, decide, at-end, full-at, at-filled, settled, staged, earliest, at-stage, first-answer, completed, only-reject}
 use Rattle.plan.specs.Promise.{One-stage}
 use Rattle.plan.proofs.Bools.{and-left}
 use Rattle.plan.proofs.Answers.{accept-stops}
@@ -28,6 +28,7 @@ use Rattle.plan.proofs.Stages.{stages-more, after-none}
 use Rattle.plan.proofs.Counting.{add-good, add-bad}
 
 or-else-none : (a : Answer) → or-else a GoOn ≡ a
+unfolding or-else
 or-else-none GoOn = refl
 or-else-none Accept = refl
 or-else-none Reject = refl
@@ -35,6 +36,7 @@ or-else-none Reject = refl
 -- full and the two cases, by their tests: W and A are rejection and acceptance of the worst case, R rejection of the best
 by-tests : (W A R B : Bool) → (A ≡ true → W ≡ false) → (W ≡ false → A ≡ true) → (A ≡ true → R ≡ false)
     → decide R A ≡ settled (decide W A) (decide R B)
+unfolding only-reject settled
 by-tests W true R B f g h = rw (decided-accept R true (h refl) refl, decided-accept W true (f refl) refl)
 by-tests false false R B f g h = cc (g refl)
 by-tests true false true B f g h = rw (decided-reject true false refl, decided-reject true B refl)
@@ -105,7 +107,7 @@ module _ (s : Stage) (n : ℕ) (sound : Sound n s) (last : Decides s) (c : Count
       from h Reject e = absurd (⊎-elim (λ k. omega (arith, h .1)) (λ k. omega (arith, h .0)) (rejects-if .0 e))
 
 agree : (s : Stage) → Sound (0 + s .size) s → Decides s → (c : Counts) → staged Full (s ∷ []) c ≡ earliest (s ∷ []) c
-unfolding staged earliest total
+unfolding staged earliest total or-else at-stage first-answer completed only-reject settled
 agree s sound last c = go (decLt (0 + s .size) (units c))
   where
     go : Dec (0 + s .size < units c) → staged Full (s ∷ []) c ≡ earliest (s ∷ []) c
@@ -129,13 +131,13 @@ unfolding total
 units-within s e = omega (arith, leb-true (0 + (s .size + 0)) 1000 e)
 
 at-stage-one : (s : Stage) (c : Counts) → units c ≤ s .size → staged Full (s ∷ []) c ≡ full-at (s .size) s c
-unfolding staged
+unfolding staged at-stage
 at-stage-one s c u =
     let n : 0 + s .size ≡ s .size = omega arith in
     current-here full-at 0 s [] c (omega arith) ∙ ap (λ (k : ℕ). full-at k s c) n
 
 past-one : (s : Stage) (c : Counts) → s .size < units c → staged Full (s ∷ []) c ≡ GoOn
-unfolding staged total
+unfolding staged total at-stage
 past-one s c u = current-past full-at 0 (s ∷ []) c (omega arith)
 
 pub one-stage-words : (w : List ℕ) → admitted w ≡ true → length w ≡ 5 → One-stage w

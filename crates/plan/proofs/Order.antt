@@ -32,6 +32,7 @@ at-most-two GoOn = omega arith
 at-most-two Reject = omega arith
 
 pub or-else-mono : (a b c d : Answer) → rank a ≤ rank b → rank c ≤ rank d → rank (or-else a c) ≤ rank (or-else b d)
+unfolding or-else
 or-else-mono Reject b c d h k = omega arith
 or-else-mono GoOn Reject c d h k = absurd (omega arith)
 or-else-mono GoOn GoOn c d h k = k
@@ -44,6 +45,7 @@ or-else-mono Accept Accept c d h k = omega arith
 
 -- undecided exactly where the worst case is not accepted and the best case is not rejected
 pub undecided : (worst best : Answer) → rank worst ≤ 1 → 1 ≤ rank best → settled worst best ≡ GoOn
+unfolding only-reject settled
 undecided Accept best h k = absurd (omega arith)
 undecided Reject Reject h k = absurd (omega arith)
 undecided Reject GoOn h k = refl
@@ -53,6 +55,7 @@ undecided GoOn GoOn h k = refl
 undecided GoOn Accept h k = refl
 
 pub undecided-ranks : (worst best : Answer) → settled worst best ≡ GoOn → (rank worst ≤ 1) × (1 ≤ rank best)
+unfolding only-reject settled
 undecided-ranks Accept best e = absurd (accept-stops e)
 undecided-ranks Reject Reject e = absurd (reject-stops e)
 undecided-ranks Reject GoOn e = omega arith
@@ -62,6 +65,7 @@ undecided-ranks GoOn GoOn e = omega arith
 undecided-ranks GoOn Accept e = omega arith
 
 pub accepts-worst : (worst best : Answer) → settled worst best ≡ Accept → worst ≡ Accept
+unfolding only-reject settled
 accepts-worst Accept best e = refl
 accepts-worst Reject Reject e = cc
 accepts-worst Reject GoOn e = cc
@@ -71,6 +75,7 @@ accepts-worst GoOn GoOn e = cc
 accepts-worst GoOn Accept e = cc
 
 pub rejects-best : (worst best : Answer) → settled worst best ≡ Reject → best ≡ Reject
+unfolding only-reject settled
 rejects-best Accept best e = cc
 rejects-best Reject Reject e = refl
 rejects-best Reject GoOn e = cc
@@ -80,6 +85,7 @@ rejects-best GoOn GoOn e = cc
 rejects-best GoOn Accept e = cc
 
 reject-mono : (best better : Answer) → rank best ≤ rank better → rank (only-reject best) ≤ rank (only-reject better)
+unfolding only-reject
 reject-mono Reject better h = omega arith
 reject-mono GoOn Reject h = absurd (omega arith)
 reject-mono GoOn GoOn h = omega arith
@@ -89,6 +95,7 @@ reject-mono Accept GoOn h = absurd (omega arith)
 reject-mono Accept Accept h = omega arith
 
 pub settled-mono : (worst best worst′ best′ : Answer) → rank worst ≤ rank worst′ → rank best ≤ rank best′ → rank (settled worst best) ≤ rank (settled worst′ best′)
+unfolding settled
 settled-mono worst best Accept best′ h k = at-most-two (settled worst best)
 settled-mono Accept best Reject best′ h k = absurd (omega arith)
 settled-mono Accept best GoOn best′ h k = absurd (omega arith)
@@ -99,6 +106,7 @@ settled-mono GoOn best GoOn best′ h k = reject-mono best best′ k
 
 -- where both begin with one answer and are undecided, it went on
 pub settled-past : (t a b : Answer) → settled (or-else t a) (or-else t b) ≡ GoOn → (t ≡ GoOn) × (settled a b ≡ GoOn)
+unfolding or-else only-reject settled
 settled-past GoOn a b e = (refl, e)
 settled-past Accept a b e = (e, cc)
 settled-past Reject a b e = (e, cc)

@@ -14,7 +14,7 @@ use Rattle.plan.specs.declared.counts.Counts.{Counts}
 use Rattle.plan.specs.declared.stage.Answer.the-variants.{GoOn}
 use Rattle.plan.specs.Plan.{Stage, total}
 use Rattle.plan.specs.Counts.{units, add-units, counts}
-use Rattle.plan.specs.Stopping.{at-end, at-filled, completed, settled}
+use Rattle.plan.specs.Stopping.{at-end, at-filled, completed, settled, first-answer}
 use Rattle.plan.specs.Promise.{rank, More}
 use Rattle.plan.proofs.Order.{at-end-mono, Better, settled-past}
 use Rattle.plan.proofs.Counting.{more-taken, units-counts, units-taken, counts-append, add-none, after-replicate}
@@ -43,12 +43,14 @@ Undecided before p c = settled (completed 2 before p c) (completed 0 before p c)
 -- at an end that is reached or past, the class of further units does not matter
 filled-past : (class : ℕ) (c : Counts) (end : ℕ) (s : Stage) → end ≤ units c
     → at-filled class c end s ≡ cond (ltb end (units c)) GoOn (at-end s c)
+unfolding at-filled
 filled-past class c end s h =
     let none : end - units c ≡ 0 = omega arith in
     ap (λ (d : Counts). cond (ltb end (units c)) GoOn (at-end s d)) (ap (λ (n : ℕ). add-units class n c) none ∙ sym (add-none class c))
 
 past : (before : ℕ) (s : Stage) (rest : List Stage) (c : Counts) → before + s .size ≤ units c → Undecided before (s ∷ rest) c
     → (cond (ltb (before + s .size) (units c)) GoOn (at-end s c) ≡ GoOn) × Undecided (before + s .size) rest c
+unfolding first-answer completed
 past before s rest c l u =
     settled-past _ _ _ (rw (filled-past 2 c (before + s .size) s l, filled-past 0 c (before + s .size) s l) at u)
 

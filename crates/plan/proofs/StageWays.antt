@@ -45,6 +45,7 @@ module _ (s : Stage) where
   -- what a way says, with the units left it stays said at the stage's end
   module _ (end : ℕ) (sound : Sound end s) (c d : Counts) (u : units c ≤ end) (m : More (end - units c) c d) (v : Answer) (n : v ≢ GoOn) where
     uncurtailed-stays : uncurtailed-at end s c ≡ v → at-end s d ≡ v
+    unfolding uncurtailed-at
     uncurtailed-stays = go (eqb (units c) end) refl
       where
         go : (b : Bool) → eqb (units c) end ≡ b → cond b (at-end s c) GoOn ≡ v → at-end s d ≡ v
@@ -52,6 +53,7 @@ module _ (s : Stage) where
         go false e f = absurd (n (sym f))
 
     semi-stays : semi-at end s c ≡ v → at-end s d ≡ v
+    unfolding semi-at uncurtailed-at
     semi-stays = go (rejects s c) refl
       where
         go : (b : Bool) → rejects s c ≡ b → cond b Reject (uncurtailed-at end s c) ≡ v → at-end s d ≡ v
@@ -68,6 +70,7 @@ module _ (s : Stage) where
         go false false e g f = absurd (n (sym f ∙ decided-on false false refl refl))
 
     stays : (way : StageWay) → at-stage way end s c ≡ v → at-end s d ≡ v
+    unfolding at-stage
     stays Uncurtailed = uncurtailed-stays
     stays Semi = semi-stays
     stays Full = full-stays
@@ -75,6 +78,7 @@ module _ (s : Stage) where
   -- a way that goes on at the stage's end does so as uncurtailed
   module _ (end : ℕ) (c : Counts) (u : units c ≡ end) where
     semi-goes-on : semi-at end s c ≡ GoOn → uncurtailed-at end s c ≡ GoOn
+    unfolding semi-at uncurtailed-at
     semi-goes-on = go (rejects s c)
       where
         go : (b : Bool) → cond b Reject (uncurtailed-at end s c) ≡ GoOn → uncurtailed-at end s c ≡ GoOn
@@ -92,9 +96,11 @@ module _ (s : Stage) where
         n = omega arith
 
     uncurtailed-is : uncurtailed-at end s c ≡ at-end s c
+    unfolding uncurtailed-at
     uncurtailed-is = rw (eq-eqb (units c) end u)
 
     goes-on : (way : StageWay) → at-stage way end s c ≡ GoOn → at-end s c ≡ GoOn
+    unfolding at-stage
     goes-on Uncurtailed e = sym uncurtailed-is ∙ e
     goes-on Semi e = sym uncurtailed-is ∙ semi-goes-on e
     goes-on Full e = sym full-is ∙ e
@@ -107,7 +113,7 @@ module _ (way : StageWay) (x X : List ℕ) (y : ℕ) (w : y ≤ length x) (agree
       → ((z : ℕ) → before < z → z < y → current (at-stage way) before p (counts (take z x)) ≡ GoOn)
       → current (at-stage way) before p (counts (take y x)) ≡ v
       → first-answer (λ end s. at-end s (counts (take end X))) before p ≡ v
-  unfolding total
+  unfolding total or-else current at-stage first-answer
   sound-from before [] k f o e = e
   sound-from before (s ∷ rest) k f o e = go (decLt (before + s .size) y) (sound-from (before + s .size) rest (k .1) (omega arith))
     where

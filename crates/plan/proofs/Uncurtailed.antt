@@ -15,7 +15,7 @@ use Rattle.plan.specs.declared.stage.Answer.the-variants.{GoOn, Accept, 
 use Rattle.plan.specs.declared.ways.StageWay.the-variants.{Uncurtailed}
 use Rattle.plan.specs.Plan.{Stage, total}
 use Rattle.plan.specs.Counts.{units, counts}
-use Rattle.plan.specs.Stopping.{or-else, at-end, first-answer, current, uncurtailed-at, staged}
+use Rattle.plan.specs.Stopping.{or-else, at-end, first-answer, current, uncurtailed-at, staged, at-stage}
 use Rattle.plan.specs.Sample.{verdict, Faithful}
 use Rattle.plan.specs.Promise.{staged-rule}
 use Rattle.plan.proofs.Counting.{units-counts}
@@ -27,9 +27,11 @@ use Rattle.plan.proofs.Verdicts.{verdict-decides}
 
 module _ (before : ℕ) (s : Stage) (rest : List Stage) (c : Counts) where
   within-first : units c < before + s .size → current uncurtailed-at before (s ∷ rest) c ≡ GoOn
+  unfolding uncurtailed-at
   within-first l = current-here uncurtailed-at before s rest c (omega arith) ∙ rw (ne-eqb (units c) (before + s .size) (λ e. omega arith))
 
   at-first : units c ≡ before + s .size → current uncurtailed-at before (s ∷ rest) c ≡ at-end s c
+  unfolding uncurtailed-at
   at-first e = current-here uncurtailed-at before s rest c (omega arith) ∙ rw (eq-eqb (units c) (before + s .size) e)
 
 -- ---- along the sample x
@@ -83,7 +85,7 @@ module _ (x : List ℕ) where
 
   stop : (before : ℕ) (p : List Stage) → Each Sound before p → before + total p ≤ length x
       → answer before p ≢ GoOn → Stop before p (answer before p)
-  unfolding total
+  unfolding total or-else first-answer
   stop before [] sound w d = absurd (d refl)
   stop before (s ∷ rest) sound w d = go (at-end s (counts (take (before + s .size) x))) refl d (stop (before + s .size) rest (sound .1) (omega arith))
     where
@@ -95,7 +97,7 @@ module _ (x : List ℕ) where
       go Reject e n later = ends-here before s rest (sound .0 .size) (omega arith) Reject e
 
 pub uncurtailed-stop : (p : List Stage) → Limits p → Faithful p (staged-rule Uncurtailed p)
-unfolding staged verdict
+unfolding staged verdict at-stage
 uncurtailed-stop p l x q =
     let t = stop x 0 p (l .sound) (omega (arith, q .complete)) (verdict-decides p l x) in
     (t .at, record { within = t .within; there = t .there; decides = verdict-decides p l x; first = t .first })

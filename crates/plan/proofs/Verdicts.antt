@@ -13,7 +13,7 @@ use Rattle.plan.specs.declared.stage.Answer.{Answer}
 use Rattle.plan.specs.declared.stage.Answer.the-variants.{GoOn, Accept, Reject}
 use Rattle.plan.specs.Plan.{Stage, total}
 use Rattle.plan.specs.Counts.{units, no-units, add-units, counts}
-use Rattle.plan.specs.Stopping.{accepts, at-filled, completed, earliest}
+use Rattle.plan.specs.Stopping.{accepts, at-filled, completed, earliest, only-reject, settled}
 use Rattle.plan.specs.Sample.{highest-class, Classes, verdict, Completion, All-have}
 use Rattle.plan.specs.Promise.{History, rank}
 use Rattle.plan.proofs.Order.{top, bottom, accepts-worst, rejects-best, undecided, not-accepted, not-rejected}
@@ -55,21 +55,21 @@ module _ (p : List Stage) (h : List ℕ) (k : History p h) where
   at-ends = ended (total p) h 0 p (omega arith) (λ y l m. k .undecided-before y m)
 
   no-worse : (x : List ℕ) → Completion p h x → rank (completed 2 0 p (counts h)) ≤ rank (verdict p x)
-  unfolding verdict
+  unfolding verdict completed
   no-worse x q =
       first-mono (Ended (total p) h) _ _ (λ end s e. worst (total p) h x (q .begins) end s e (omega (arith, e .within, q .complete))) 0 p at-ends
 
   no-better : (x : List ℕ) → Completion p h x → rank (verdict p x) ≤ rank (completed 0 0 p (counts h))
-  unfolding verdict
+  unfolding verdict completed
   no-better x q =
       first-mono (Ended (total p) h) _ _ (λ end s e. best (total p) h x (q .begins) end s e (omega (arith, e .within, q .complete))) 0 p at-ends
 
   exact : (class : ℕ) → verdict p (h ++ replicate (total p - length h) class) ≡ completed class 0 p (counts h)
-  unfolding verdict
+  unfolding verdict completed
   exact class = first-same (Ended (total p) h) _ _ (reached class (total p) h (total p - length h) (omega arith)) 0 p at-ends
 
   right-within : length h ≤ total p → Right p h
-  unfolding earliest
+  unfolding earliest only-reject settled
   right-within n =
       let one : (class : ℕ) → class ≤ highest-class → (v : Answer) → All-have p h v → completed class 0 p (counts h) ≡ v
       = λ class l v f. sym (exact class) ∙ f _ (filled class p h l (k .classes) n) in
@@ -127,7 +127,7 @@ module _ (p : List Stage) (l : Limits p) where
       (λ n. not-rejected s (add-units 0 (end - units no-units) no-units) (not-rejects-below s _ (omega (arith, m .reject2)) (omega (arith, m .reject1))))
 
   pub empty : earliest p no-units ≡ GoOn
-  unfolding earliest
+  unfolding earliest completed
   empty =
       undecided (completed 2 0 p no-units) (completed 0 0 p no-units)
       (omega (arith, first-mono Sound (at-filled 2 no-units) (λ end s. GoOn) worst-empty 0 p (l .sound), ap rank (first-on 0 p)))

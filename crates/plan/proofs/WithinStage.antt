@@ -18,7 +18,7 @@ use Rattle.plan.specs.declared.ways.Way.{Way}
 use Rattle.plan.specs.declared.ways.Way.the-variants.{Staged, Earliest}
 use Rattle.plan.specs.Plan.{Stage, End}
 use Rattle.plan.specs.Counts.{units, nonbad, counts-after}
-use Rattle.plan.specs.Stopping.{rejects, accepts, decide, at-end, uncurtailed-at, full-at, at-stage, current, staged, answer}
+use Rattle.plan.specs.Stopping.{rejects, accepts, decide, at-end, uncurtailed-at, full-at, at-stage, current, staged, answer, semi-at}
 use Rattle.plan.specs.Promise.{Same-stage, More}
 use Rattle.plan.proofs.Answers.{reject-stops}
 use Rattle.plan.proofs.Decide.{decided-on, when-on}
@@ -56,6 +56,7 @@ module _ (n : ℕ) (c d : Counts) (m : More n c d) where
 
     -- c at the stage's end has as many units as d
     uncurtailed-sooner : uncurtailed-at end s d ≡ GoOn → uncurtailed-at end s c ≡ GoOn
+    unfolding uncurtailed-at
     uncurtailed-sooner e = go (eqb (units c) end) refl
       where
         go : (b : Bool) → eqb (units c) end ≡ b → cond b (at-end s c) GoOn ≡ GoOn
@@ -65,13 +66,14 @@ module _ (n : ℕ) (c d : Counts) (m : More n c d) where
         go false f = refl
 
     sooner : (way : StageWay) → at-stage way end s d ≡ GoOn → at-stage way end s c ≡ GoOn
+    unfolding semi-at at-stage
     sooner Uncurtailed = uncurtailed-sooner
     sooner Semi = reject-sooner (rejects s c) (rejects s d) _ _ still-rejects uncurtailed-sooner
     sooner Full = full-sooner
 
   staged-sooner : (way : StageWay) (before : ℕ) (p : List Stage) → ((e : ℕ) → End before p e → units c ≤ e → units d ≤ e)
       → current (at-stage way) before p d ≡ GoOn → current (at-stage way) before p c ≡ GoOn
-  unfolding End
+  unfolding End current
   staged-sooner way before [] same e = refl
   staged-sooner way before (s ∷ rest) same e = go (decLt (before + s .size) (units c)) (staged-sooner way (before + s .size) rest (λ z k. same z (inr k)))
     where

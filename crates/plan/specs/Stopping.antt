@@ -20,7 +20,7 @@ state Accept = 1
 state Reject = 2
 
 -- the answer a, or b where a goes on
-abbrev pub or-else : Answer → Answer → Answer
+unfoldable pub or-else : Answer → Answer → Answer
 or-else GoOn b = b
 or-else Accept b = Accept
 or-else Reject b = Reject
@@ -42,10 +42,10 @@ decide rejected accepted = cond rejected Reject (cond accepted Accept GoOn)
 unfoldable pub at-end : Stage → Counts → Answer
 at-end s c = decide (rejects s c) (accepts s (c .bad) (nongood c))
 
-abbrev pub uncurtailed-at : ℕ → Stage → Counts → Answer
+unfoldable pub uncurtailed-at : ℕ → Stage → Counts → Answer
 uncurtailed-at end s c = cond (eqb (units c) end) (at-end s c) GoOn
 
-abbrev pub semi-at : ℕ → Stage → Counts → Answer
+unfoldable pub semi-at : ℕ → Stage → Counts → Answer
 semi-at end s c = cond (rejects s c) Reject (uncurtailed-at end s c)
 
 -- 01 has nonbad ≥ end − a2 and good ≥ end − a1: the same as end − nonbad ≤ a2 and end − good ≤ a1
@@ -54,11 +54,11 @@ full-at end s c = decide (rejects s c) (accepts s (end - nonbad c) (end - c .goo
 
 -- ---- at the current stage of the units c: the first that ends after no fewer units
 
-abbrev pub current : (ℕ → Stage → Counts → Answer) → ℕ → List Stage → Counts → Answer
+unfoldable pub current : (ℕ → Stage → Counts → Answer) → ℕ → List Stage → Counts → Answer
 current way before [] c = GoOn
 current way before (s ∷ rest) c = cond (leb (units c) (before + s .size)) (way (before + s .size) s c) (current way (before + s .size) rest c)
 
-abbrev pub at-stage : StageWay → ℕ → Stage → Counts → Answer
+unfoldable pub at-stage : StageWay → ℕ → Stage → Counts → Answer
 at-stage Uncurtailed = uncurtailed-at
 at-stage Semi = semi-at
 at-stage Full = full-at
@@ -69,25 +69,25 @@ staged way p c = current (at-stage way) 0 p c
 -- ---- earliest: by the worst and the best case (01: the far ends of completion)
 
 -- the first answer of the stages that does not go on: `at end s` answers for the stage s, which ends after `end` units
-abbrev pub first-answer : (ℕ → Stage → Answer) → ℕ → List Stage → Answer
+unfoldable pub first-answer : (ℕ → Stage → Answer) → ℕ → List Stage → Answer
 first-answer at before [] = GoOn
 first-answer at before (s ∷ rest) = or-else (at (before + s .size) s) (first-answer at (before + s .size) rest)
 
 -- a stage's end where every unit after the units c has one class. An end before c went on
-abbrev pub at-filled : ℕ → Counts → ℕ → Stage → Answer
+unfoldable pub at-filled : ℕ → Counts → ℕ → Stage → Answer
 at-filled class c end s = cond (ltb end (units c)) GoOn (at-end s (add-units class (end - units c) c))
 
 -- the uncurtailed verdict then; the stages come after `before` units
-abbrev pub completed : ℕ → ℕ → List Stage → Counts → Answer
+unfoldable pub completed : ℕ → ℕ → List Stage → Counts → Answer
 completed class before p c = first-answer (at-filled class c) before p
 
-abbrev pub only-reject : Answer → Answer
+unfoldable pub only-reject : Answer → Answer
 only-reject GoOn = GoOn
 only-reject Accept = GoOn
 only-reject Reject = Reject
 
 -- accepted where even the worst case is accepted, rejected where even the best case is rejected
-abbrev pub settled : Answer → Answer → Answer
+unfoldable pub settled : Answer → Answer → Answer
 settled Accept best = Accept
 settled Reject best = only-reject best
 settled GoOn best = only-reject best

@@ -7,6 +7,7 @@ use lib.ListN.{length}
 use borrow.Fn.Kinds.{In}
 use borrow.Fn.PlainCycle.{Measures, is, falls, and}
 use Rattle.plan.specs.declared.stage.Answer.the-variants.{GoOn, Accept, Reject}
+use Rattle.plan.specs.Stopping.{at-filled, completed, or-else}
 use Rattle.plan.proofs.Stages.{total-more}
 use Rattle.plan.proofs.FirstStage.{completed-none, completed-first}
 use Rattle.plan.proofs.completion.completed.Reads as completed
@@ -47,6 +48,7 @@ module _ (t : ℕ) where
       (omega arith, (omega arith, start .pre .1 .1))
 
   returns-2 : lts.Need-returns-2 (calls t) (given t) completed.Post
+  unfolding or-else
   returns-2 c =
       let told = c .before .before in
       let a = told .before .before .before .before .before .before .args in
@@ -54,12 +56,14 @@ module _ (t : ℕ) where
       GoOn (sym (told .enum-told .given .1) ∙ told .before .before .at-filled .ensures))
 
   returns-3 : lts.Need-returns-3 (calls t) (given t) completed.Post
+  unfolding or-else
   returns-3 c =
       let a = c .before .before .before .before .before .before .args in
       sym (completed-first (a .plan .now) (a .class) (a .before) (a .c) (c .before .before .before .before .if1 .left)
       Accept (sym (c .enum-told2 .given .1) ∙ c .before .before .at-filled .ensures))
 
   returns-4 : lts.Need-returns-4 (calls t) (given t) completed.Post
+  unfolding or-else
   returns-4 c =
       let a = c .before .before .before .before .before .before .args in
       sym (completed-first (a .plan .now) (a .class) (a .before) (a .c) (c .before .before .before .before .if1 .left)

@@ -16,11 +16,13 @@ use Rattle.plan.proofs.completion.earliest.Tie as tie
 
 -- an answer that is none of Accept, none of Reject
 not-accept : (a b : Answer) → (tagOf the-type a ≡ 0) ⊎ (tagOf the-type a ≡ 2) → settled a b ≡ only-reject b
+unfolding only-reject settled
 not-accept GoOn b h = refl
 not-accept Reject b h = refl
 not-accept Accept b h = absurd (⊎-elim (λ e. omega arith) (λ e. omega arith) h)
 
 not-reject : (a : Answer) → (tagOf the-type a ≡ 0) ⊎ (tagOf the-type a ≡ 1) → only-reject a ≡ GoOn
+unfolding only-reject
 not-reject GoOn h = refl
 not-reject Accept h = refl
 not-reject Reject h = absurd (⊎-elim (λ e. omega arith) (λ e. omega arith) h)
@@ -31,6 +33,7 @@ module _ (p : List Stage) (c : Counts) (worst best : Answer) (w : worst ≡ comp
   both = ap₂ settled w b
 
 returns : tie.Need-returns
+unfolding completed settled
 returns c =
     let a = c .before .before .before .before .args in
     let worst = c .before .before .completed in
@@ -38,6 +41,7 @@ returns c =
     ∙ both (stages (a .plan .now)) (a .c) (worst .result) _ (worst .ensures) refl
 
 returns-2 : tie.Need-returns-2
+unfolding only-reject
 returns-2 c =
     let a = c .before .before .before .before .before .before .args in
     let worst = c .before .before .before .before .completed in
