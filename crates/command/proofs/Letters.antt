@@ -9,8 +9,8 @@ use lib.Dec.{leb}
 use lib.ListN.{length, take, drop, getD}
 use lib.Seq.{length-take-le, take-suc, getD-take}
 use borrow.Author.Tests.{le-leb, lt-leb, leb-true, leb-false, eq-eqb, ne-eqb}
-use Rattle.command.specs.Command.{Command, fresh, opening, inspecting, striking, looking, closing, tallying, whole-stages, forms, by-letter, numbers, of-letter, command}
-use Rattle.command.specs.Fields.{until-space, fields-after}
+use Rattle.command.specs.Command.{Command, space, fresh, opening, inspecting, striking, looking, closing, tallying, whole-stages, forms, by-letter, numbers, of-letter, command}
+use Rattle.command.specs.Fields.{until, fields-after}
 use Rattle.command.specs.Read.{most-numbers, as-count}
 use Rattle.command.specs.declared.arguments.Count.the-variants as code
 use Rattle.command.proofs.OneField.{first-field, until-within}
@@ -81,7 +81,7 @@ module _ (line : List ℕ) where
   unfolding command
   too-long h = rw (lt-leb (length line) 255 h)
 
-  one-line : length line ≤ 255 → command line ≡ of-letter (take (until-space line) line) (numbers (fields-after (drop (until-space line) line)))
+  one-line : length line ≤ 255 → command line ≡ of-letter (take (until space line) line) (numbers (fields-after (drop (until space line) line)))
   unfolding command
   one-line h = rw (le-leb (length line) 255 h, first-field line)
 
@@ -91,18 +91,18 @@ module _ (line : List ℕ) where
   not-one (b ∷ []) (some ns) h = absurd (h refl)
   not-one (b ∷ c ∷ bs) (some ns) h = refl
 
-  pub no-letter-field : length line ≤ 255 → (0 + until-space line ≡ 1 → ⊥) → command line ≡ none
+  pub no-letter-field : length line ≤ 255 → (0 + until space line ≡ 1 → ⊥) → command line ≡ none
   no-letter-field h e =
-      let l : length (take (until-space line) line) ≡ until-space line = length-take-le (until-space line) line (until-within line) in
-      one-line h ∙ not-one (take (until-space line) line) (numbers (fields-after (drop (until-space line) line))) (λ q. e (omega arith))
+      let l : length (take (until space line) line) ≡ until space line = length-take-le (until space line) line (until-within space line) in
+      one-line h ∙ not-one (take (until space line) line) (numbers (fields-after (drop (until space line) line))) (λ q. e (omega arith))
 
-  module _ (h : length line ≤ 255) (e : 0 + until-space line ≡ 1) where
+  module _ (h : length line ≤ 255) (e : 0 + until space line ≡ 1) where
     pub some-byte : 1 ≤ length line
-    some-byte = omega (arith, until-within line)
+    some-byte = omega (arith, until-within space line)
 
     of-numbers : command line ≡ of-letter (getD line 0 0 ∷ []) (numbers (fields-after (drop 1 line)))
     of-numbers =
-        let u : until-space line ≡ 1 = omega arith in
+        let u : until space line ≡ 1 = omega arith in
         one-line h ∙ ap (λ (k : ℕ). of-letter (take k line) (numbers (fields-after (drop k line)))) u
         ∙ ap (λ (s : List ℕ). of-letter s (numbers (fields-after (drop 1 line)))) (take-suc line 0 0 some-byte)
 

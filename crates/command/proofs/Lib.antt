@@ -1,8 +1,10 @@
--- What the proofs of several functions use, and the laws of the numbers printed and read (Digits), of fields (OneField) and of a line (LineLaws).
+-- What the proofs of several functions use, and the laws of the numbers printed and read (Digits), of fields (OneField), of a line (Laws) and of an input in blocks (Blocks).
 pub mod Digits
 pub mod OneField
 mod OneNumber
 mod Letters
 mod Writing
 mod Answers
-pub mod LineLaws
+pub mod Laws
+pub mod Blocks
+mod Pieces

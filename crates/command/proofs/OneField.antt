@@ -10,38 +10,38 @@ use lib.Seq.{drop-cons}
 use lib.Dec.{eqb}
 use borrow.Author.Tests.{eq-eqb, ne-eqb}
 use Rattle.command.specs.Command.{space, fields, in-front}
-use Rattle.command.specs.Fields.{until-space, fields-after, First-field}
+use Rattle.command.specs.Fields.{until, fields-after, First-field}
 
 pub first-field : First-field
-unfolding fields until-space
+unfolding fields until
 first-field [] = refl
 first-field (b ∷ bs) = go (eqb b space) (first-field bs)
   where
-    go : (t : Bool) → fields bs ≡ take (until-space bs) bs ∷ fields-after (drop (until-space bs) bs)
-        → cond t ([] ∷ fields bs) (in-front b (fields bs)) ≡ take (cond t zero (suc (until-space bs))) (b ∷ bs) ∷ fields-after (drop (cond t zero (suc (until-space bs))) (b ∷ bs))
+    go : (t : Bool) → fields bs ≡ take (until space bs) bs ∷ fields-after (drop (until space bs) bs)
+        → cond t ([] ∷ fields bs) (in-front b (fields bs)) ≡ take (cond t zero (suc (until space bs))) (b ∷ bs) ∷ fields-after (drop (cond t zero (suc (until space bs))) (b ∷ bs))
     go true e = refl
     go false e = ap (in-front b) e
 
-pub until-within : (s : List ℕ) → until-space s ≤ length s
-unfolding until-space
-until-within [] = omega arith
-until-within (b ∷ bs) = go (eqb b space) (until-within bs)
+pub until-within : (stop : ℕ) (s : List ℕ) → until stop s ≤ length s
+unfolding until
+until-within stop [] = omega arith
+until-within stop (b ∷ bs) = go (eqb b stop) (until-within stop bs)
   where
-    go : (t : Bool) → until-space bs ≤ length bs → cond t zero (suc (until-space bs)) ≤ suc (length bs)
+    go : (t : Bool) → until stop bs ≤ length bs → cond t zero (suc (until stop bs)) ≤ suc (length bs)
     go true e = omega arith
     go false e = omega arith
 
 -- ---- one byte on
 
-module _ (s : List ℕ) (i : ℕ) where
-  pub at-space : i < length s → getD s i 0 ≡ space → until-space (drop i s) ≡ 0
-  unfolding until-space
-  at-space h e = rw (drop-cons s i 0 h, eq-eqb (getD s i 0) space e)
+module _ (stop : ℕ) (s : List ℕ) (i : ℕ) where
+  pub at-stop : i < length s → getD s i 0 ≡ stop → until stop (drop i s) ≡ 0
+  unfolding until
+  at-stop h e = rw (drop-cons s i 0 h, eq-eqb (getD s i 0) stop e)
 
-  pub no-space : i < length s → (getD s i 0 ≡ space → ⊥) → until-space (drop i s) ≡ suc (until-space (drop (i + 1) s))
-  unfolding until-space
-  no-space h e = rw (add-one, drop-cons s i 0 h, ne-eqb (getD s i 0) space e)
+  pub no-stop : i < length s → (getD s i 0 ≡ stop → ⊥) → until stop (drop i s) ≡ suc (until stop (drop (i + 1) s))
+  unfolding until
+  no-stop h e = rw (add-one, drop-cons s i 0 h, ne-eqb (getD s i 0) stop e)
 
-  pub at-end : length s ≤ i → until-space (drop i s) ≡ 0
-  unfolding until-space
+  pub at-end : length s ≤ i → until stop (drop i s) ≡ 0
+  unfolding until
   at-end h = rw (drop-of-length-le s h)

@@ -12,8 +12,8 @@ use Rattle.command.specs.declared.arguments.Count.{Count}
 use Rattle.command.specs.declared.arguments.Count.the-variants as count
 use Rattle.command.specs.declared.decimal.Number.the-variants as number
 use Rattle.command.specs.Decimal.{number}
-use Rattle.command.specs.Command.{and-then, numbers}
-use Rattle.command.specs.Fields.{until-space, fields-after}
+use Rattle.command.specs.Command.{space, and-then, numbers}
+use Rattle.command.specs.Fields.{until, fields-after}
 use Rattle.command.specs.Read.{most-numbers, as-number, as-count}
 use Rattle.command.proofs.OneField.{first-field, until-within}
 
@@ -30,7 +30,7 @@ left line at = numbers (fields-after (drop at line))
 
 module _ (line : List ℕ) (at : ℕ) (h : at < length line) where
   abbrev here : ℕ
-  here = until-space (drop (at + 1) line)
+  here = until space (drop (at + 1) line)
 
   one-field : left line at ≡ and-then (number (take here (drop (at + 1) line))) (left line (at + 1 + here))
   unfolding numbers
@@ -137,7 +137,7 @@ module _ (line : List ℕ) (start : ℕ) (list : List ℕ) (n at : ℕ) (r : Rea
       let e : left line start ≡ onto (take n list) (some []) = r .so-far ∙ ap (onto (take n list)) (none-left line at h) in
       (counted (left line start) list n (r .long) (r .room) e, kept (left line start) list n (r .long) (r .room) e)
 
-  module _ (h : at < length line) (end : ℕ) (e : end ≡ at + 1 + until-space (drop (at + 1) line)) where
+  module _ (h : at < length line) (end : ℕ) (e : end ≡ at + 1 + until space (drop (at + 1) line)) where
     pub bad-number : number.Bad ≡ as-number (number (take (end - (at + 1)) (drop (at + 1) line))) → Read-as (left line start) list count.Bad
     bad-number f = none-read list (left line start)
         (r .so-far ∙ ap (onto (take n list)) (no-number line at h end e (bad (number (take (end - (at + 1)) (drop (at + 1) line))) f)))
@@ -145,7 +145,7 @@ module _ (line : List ℕ) (start : ℕ) (list : List ℕ) (n at : ℕ) (r : Rea
     pub next-number : (v : ℕ) → number.Value v ≡ as-number (number (take (end - (at + 1)) (drop (at + 1) line))) → n < most-numbers
         → Reading line start (set list n v) (n + 1) end
     next-number v f m = record {
-      within = let u = until-within (drop (at + 1) line) in omega (arith, length-drop (at + 1) line);
+      within = let u = until-within space (drop (at + 1) line) in omega (arith, length-drop (at + 1) line);
       room = omega arith;
       long = length-set list n v ∙ r .long;
       so-far = stored (left line start) list n v (left line at) (left line end) (omega (arith, r .long)) (r .so-far)

@@ -46,6 +46,10 @@ written-then out at x b h =
     let e : length (written out at x) ≡ length out = length-written out at x (omega arith) in
     written-byte (written out at x) (at + length x) b (omega arith) ∙ written-more out at x (omega arith) (b ∷ []) (omega arith)
 
+pub fits : (out y out′ : List ℕ) → out′ ≡ written out 0 y → length out′ ≡ length out → length y ≤ length out
+unfolding written
+fits out y out′ e l = omega (arith, ap length e, length-append y (drop (0 + length y) out), length-drop (0 + length y) out)
+
 -- ---- a number
 
 module _ (out : List ℕ) (at n : ℕ) where

@@ -8,10 +8,10 @@ use lib.ListN.{take, drop}
 use lib.Dec.{eqb}
 use Rattle.command.specs.Command.{space, fields}
 
--- how many bytes stand before the first space, or in all if there is none
-unfoldable pub until-space : List ℕ → ℕ
-until-space [] = zero
-until-space (b ∷ bs) = cond (eqb b space) zero (suc (until-space bs))
+-- how many bytes stand before the first byte `stop`, or in all if there is none
+unfoldable pub until : ℕ → List ℕ → ℕ
+until stop [] = zero
+until stop (b ∷ bs) = cond (eqb b stop) zero (suc (until stop bs))
 
 -- the fields after the byte that ends one; none at the end of the line
 abbrev pub fields-after : List ℕ → List (List ℕ)
@@ -19,4 +19,4 @@ fields-after [] = []
 fields-after (b ∷ bs) = fields bs
 
 abbrev pub First-field : Type 0
-First-field = (s : List ℕ) → fields s ≡ take (until-space s) s ∷ fields-after (drop (until-space s) s)
+First-field = (s : List ℕ) → fields s ≡ take (until space s) s ∷ fields-after (drop (until space s) s)

@@ -1,4 +1,4 @@
--- What holds of every line and every sheet: statements alone, proved in proofs/LineLaws.antt.
+-- What holds of every line and every sheet: statements alone, proved in proofs/Laws.antt.
 use Prim.Native.Nat.{ℕ}
 use mathlib.Core.Path.{_≡_}
 use mathlib.Core.Option.{none, some}
@@ -7,8 +7,6 @@ use Rattle.command.specs.Command.{Command, command}
 use Rattle.command.specs.Printed.{performed, refusal, not-a-command, answer}
 
 pub record Line-laws (line w : List ℕ) : Type 0 where
-  -- a line is not two commands
-  pub at-most-one : (c d : Command) → command line ≡ some c → command line ≡ some d → c ≡ d
   -- a command makes its call
   pub makes-call : (c : Command) → command line ≡ some c → answer line w ≡ performed c w
   -- any other line gets 16 and makes no call: every word stays

@@ -3,5 +3,7 @@ pub mod Read
 pub mod Command
 pub mod Printed
 pub mod Fields
+pub mod Lines
+pub mod Blocks
 pub mod Written
 pub mod Laws

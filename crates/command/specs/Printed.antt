@@ -44,6 +44,10 @@ spaced (n ∷ ns) = (command.space ∷ printed n) ++ spaced ns
 abbrev pub end-of-line : ℕ
 end-of-line = 10
 
+-- no reply has more bytes
+abbrev pub longest-reply : ℕ
+longest-reply = 64
+
 unfoldable pub reply-line : List ℕ → List ℕ → List ℕ
 reply-line word ns = word ++ (spaced ns ++ (end-of-line ∷ []))
 

@@ -6,17 +6,16 @@ use crate::replies::put_done;
 use crate::replies::put_look;
 use crate::replies::put_refusal;
 use crate::replies::put_tally;
-ghost use mathlib.Core.Path.{_≡_};
+ghost use Prim.Native.Nat.{_≤_};
 ghost use lib.ListN.{length};
-ghost use Rattle.command.specs.Printed.{answer};
-ghost use Rattle.command.specs.Written.{written};
+ghost use Rattle.command.specs.Printed.{longest-reply, answer};
+ghost use Rattle.command.specs.Written.{Gives};
 
 // Answers a line, which is without the byte 10. The result is the number of bytes printed; the others of `out`
 // stay as they are.
-pub fn answer(line: &[u8], sheet: &mut [u32], out: &mut [u8; 64]) -> usize
-    ensures { λ r. ⌜ r ≡ length (answer (now (line .entry)) (now (sheet .entry)) .reply) ⌝ }
-    ensures { λ _. ⌜ now (out .exit) ≡ written (now (out .entry)) 0 (answer (now (line .entry)) (now (sheet .entry)) .reply) ⌝ }
-    ensures { λ _. ⌜ now (sheet .exit) ≡ answer (now (line .entry)) (now (sheet .entry)) .words ⌝ }
+pub fn answer(line: &[u8], sheet: &mut [u32], out: &mut [u8]) -> usize
+    requires { ⌜ longest-reply ≤ length (now out) ⌝ }
+    ensures { λ r. ⌜ Gives (answer (now (line .entry)) (now (sheet .entry))) (now (out .entry)) r (now (out .exit)) (now (sheet .exit)) ⌝ }
 {
     let mut list = [0u32; 35];
     match read_command(line, &mut list) {

@@ -1,7 +1,7 @@
 // The numbers after a command's letter. Document 01, "Program lots".
 use crate::decimal::Number;
 use crate::decimal::read_number;
-use crate::fields::field_end;
+use crate::fields::find;
 ghost use mathlib.Core.Path.{_≡_};
 ghost use mathlib.Core.List.{List};
 ghost use mathlib.Core.Option.{some};
@@ -30,7 +30,7 @@ pub fn read_numbers(line: &[u8], start: usize, list: &mut [u32]) -> Count
             return Count::Bad;
         }
         let begin = at + 1;
-        let end = field_end(line, begin);
+        let end = find(line, begin, b' ');
         match read_number(&line[begin..end]) {
             Number::Bad => {
                 return Count::Bad;

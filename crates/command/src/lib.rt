@@ -1,4 +1,4 @@
-// One line of input to one reply on a sheet. Document 01, "Program lots".
+// The bytes of an input to replies on a sheet. Document 01, "Program lots".
 mod answering;
 mod arguments;
 mod decimal;
@@ -6,5 +6,8 @@ mod fields;
 mod printing;
 mod reading;
 mod replies;
+mod taking;
 
-pub use answering::answer;
+pub use taking::Taken;
+pub use taking::end_input;
+pub use taking::take_bytes;

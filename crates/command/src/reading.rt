@@ -1,7 +1,7 @@
 // The command that a line is. Document 01, "Program lots".
 use crate::arguments::Count;
 use crate::arguments::read_numbers;
-use crate::fields::field_end;
+use crate::fields::find;
 ghost use mathlib.Core.Path.{_≡_};
 ghost use Prim.Native.Nat.{_≤_};
 ghost use lib.ListN.{length, take};
@@ -82,7 +82,7 @@ pub fn read_command(line: &[u8], list: &mut [u32]) -> Command
     if 255 < line.len() {
         return Command::Bad;
     }
-    if field_end(line, 0) != 1 {
+    if find(line, 0, b' ') != 1 {
         return Command::Bad;
     }
     match read_numbers(line, 1, list) {

@@ -8,8 +8,11 @@ use sheet::Tallied;
 ghost use mathlib.Core.Path.{_≡_};
 ghost use Prim.Native.Nat.{_+_, _*_, _≤_};
 ghost use lib.ListN.{length};
-ghost use Rattle.command.specs.Printed.{reply-line, refusal, done-printed, look-printed, tally-printed};
+ghost use Rattle.command.specs.Printed.{longest-reply, reply-line, refusal, done-printed, look-printed, tally-printed};
 ghost use Rattle.command.specs.Written.{written};
+
+// The most bytes that a reply has.
+pub const LONGEST_REPLY: usize = 64;
 
 // Prints a line with a word and numbers. The result is the number of its bytes.
 fn put_line(out: &mut [u8], word: &[u8], numbers: &[u32]) -> usize
@@ -25,7 +28,7 @@ fn put_line(out: &mut [u8], word: &[u8], numbers: &[u32]) -> usize
 
 // Each of these prints a reply's line. The result is the number of its bytes.
 pub fn put_refusal(out: &mut [u8], n: u32) -> usize
-    requires { ⌜ 64 ≤ length (now out) ⌝ }
+    requires { ⌜ longest-reply ≤ length (now out) ⌝ }
     ensures { λ r. ⌜ r ≡ length (refusal n) ⌝ }
     ensures { λ _. ⌜ now (out .exit) ≡ written (now (out .entry)) 0 (refusal n) ⌝ }
 {
@@ -34,7 +37,7 @@ pub fn put_refusal(out: &mut [u8], n: u32) -> usize
 }
 
 pub fn put_done(out: &mut [u8], done: Done) -> usize
-    requires { ⌜ 64 ≤ length (now out) ⌝ }
+    requires { ⌜ longest-reply ≤ length (now out) ⌝ }
     ensures { λ r. ⌜ r ≡ length (done-printed done) ⌝ }
     ensures { λ _. ⌜ now (out .exit) ≡ written (now (out .entry)) 0 (done-printed done) ⌝ }
 {
@@ -45,7 +48,7 @@ pub fn put_done(out: &mut [u8], done: Done) -> usize
 }
 
 pub fn put_look(out: &mut [u8], looked: Looked) -> usize
-    requires { ⌜ 64 ≤ length (now out) ⌝ }
+    requires { ⌜ longest-reply ≤ length (now out) ⌝ }
     ensures { λ r. ⌜ r ≡ length (look-printed looked) ⌝ }
     ensures { λ _. ⌜ now (out .exit) ≡ written (now (out .entry)) 0 (look-printed looked) ⌝ }
 {
@@ -64,7 +67,7 @@ pub fn put_look(out: &mut [u8], looked: Looked) -> usize
 }
 
 pub fn put_tally(out: &mut [u8], tallied: Tallied) -> usize
-    requires { ⌜ 64 ≤ length (now out) ⌝ }
+    requires { ⌜ longest-reply ≤ length (now out) ⌝ }
     ensures { λ r. ⌜ r ≡ length (tally-printed tallied) ⌝ }
     ensures { λ _. ⌜ now (out .exit) ≡ written (now (out .entry)) 0 (tally-printed tallied) ⌝ }
 {

@@ -1,12 +1,14 @@
--- `lots::main` is safe and ends. The measure is the number of turns that are left; nothing else has to hold from turn to turn.
+-- `lots::main` is safe and ends. The measure is the number of turns that are left; the line's bytes fit from turn to turn.
 -- Assumes nothing.
+use Prim.Native.Nat.{_≤_}
 use native.Mathlib.Omega.{arith}
 use borrow.Author.Needs.{needs}
+use Rattle.command.specs.Blocks.{most-kept}
 use Rattle.lots.proofs.main.Statement.{statement}
 use Rattle.lots.proofs.main.Tie as tie
 
 abbrev Inv-loop : tie.InvT-loop
-Inv-loop sheet₀ line₀ replies₀ n₀ turns₀ sheet line replies n turns = Unit {0}
+Inv-loop sheet₀ line₀ replies₀ n₀ turns₀ sheet line replies n turns = n ≤ most-kept
 
 abbrev μ-loop : tie.MeasureT-loop
 μ-loop sheet₀ line₀ replies₀ n₀ turns₀ sheet line replies n turns = turns
@@ -17,12 +19,10 @@ main-spec =
     (tie.spec
     Inv-loop
     μ-loop
-    (λ c. tt)
-    (λ c κs. tt)
-    (λ c. search needs)
-    (λ c. search needs)
+    (λ c. omega arith)
+    (λ c κs. search needs)
     (λ c. tt)
     (λ c. omega arith)
     (λ c. omega arith)
-    (λ c. tt)
+    (λ c. c .before .take-input .ensures)
     (λ c. tt))

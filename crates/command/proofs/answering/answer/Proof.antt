@@ -1,7 +1,8 @@
 -- `command::answer` meets its contract, command by command. Assumes nothing.
 use Prim.Native.Nat.{ℕ, _≤_}
 use native.Mathlib.Omega.{arith}
-use mathlib.Core.Path.{ap, sym, _∙_}
+use mathlib.Core.Path.{_≡_, refl, ap, sym, _∙_}
+use mathlib.Core.Option.{Option}
 use mathlib.Core.List.{List}
 use lib.ListN.{length, take}
 use lib.Seq.{length-take-le}
@@ -12,11 +13,11 @@ use Rattle.sheetmodel.specs.declared.reply.Tallied.{Tallied}
 use Rattle.sheetmodel.specs.Calls as calls
 use Rattle.command.specs.declared.reading.Command.{Command}
 use Rattle.command.specs.Command as command
-use Rattle.command.specs.Printed.{done-printed, look-printed, tally-printed}
+use Rattle.command.specs.Printed.{in-bytes, refusal, not-a-command, done-printed, look-printed, tally-printed, performed, answered, answer}
 use Rattle.command.specs.Read.{most-numbers, meaning, plan-numbers}
-use Rattle.command.specs.Written.{written}
+use Rattle.command.specs.Written.{written, Gives}
 use Rattle.sheetmodel.proofs.Corollaries.{look-words, tally-words}
-use Rattle.command.proofs.Answers.{of-command, of-none, fresh-made, opening-made, inspecting-made, striking-made, looking-made, closing-made, tallying-made, printed-length, printed-bytes, left-words}
+use Rattle.command.proofs.Answers.{by-call}
 use Rattle.command.proofs.answering.answer.Statement.{statement}
 use Rattle.command.proofs.answering.answer.Tie as tie
 
@@ -29,108 +30,96 @@ array-share-prefix-list c =
 slice-aggregate-fresh : tie.Need-slice-aggregate-fresh
 slice-aggregate-fresh c = sym (length-take-le _ _ (array-share-prefix-list (c .before)))
 
+-- ---- the command x was read: its call's outcome is the answer
+
+module _ (c : tie.After-read-command) where
+  abbrev line : List ℕ
+  line = c .before .before .before .before .before .args .line .now
+
+  abbrev words : List ℕ
+  words = c .before .before .before .before .before .args .sheet .now
+
+  abbrev out : List ℕ
+  out = c .before .before .before .before .before .args .out .now
+
+  abbrev list : List ℕ
+  list = c .read-command .last .1 .0
+
+  call : (x : Command) → c .read-command .result ≡ x → (R : Type 0) (bytes : R → List ℕ) (o : calls.Outcome R) → answered (meaning x list) words ≡ in-bytes bytes o
+      → (d : R) → d ≡ o .reply → (r : ℕ) → r ≡ length (bytes d) → (last : List ℕ) → last ≡ written out 0 (bytes d) → length last ≡ length out → (after : List ℕ) → after ≡ o .words
+      → Gives (answer line words) out r last after
+  unfolding answer
+  call x e R bytes o made d told r count last printed same after left =
+      by-call line words R bytes o (ap (λ (m : Option command.Command). answered m words) (c .read-command .ensures .0 ∙ ap (λ (m : Command). meaning m list) e) ∙ made) d told out r count last printed same after left
+
 returns : tie.Need-returns
+unfolding performed
 returns c =
-    let line = c .before .before .before .before .before .before .before .before .before .before .before .before .before .before .before .args .line .now in
-    let w = c .before .before .before .before .before .before .before .before .before .before .before .before .before .before .before .args .sheet .now in
-    let x = c .before .before .before .before .before .before .before .before .n .given in
-    let e = of-command line w (command.fresh (take (x .0 .0) (c .before .before .before .before .before .before .before .before .before .before .before .read-command .last .1 .0))) (c .before .before .before .before .before .before .before .before .before .before .before .read-command .ensures .0 ∙ ap (λ (r : Command). meaning r (c .before .before .before .before .before .before .before .before .before .before .before .read-command .last .1 .0)) (x .1)) in (
-      printed-length line w Done done-printed (calls.fresh (take (x .0 .0) (c .before .before .before .before .before .before .before .before .before .before .before .read-command .last .1 .0)) w) (e ∙ fresh-made w (take (x .0 .0) (c .before .before .before .before .before .before .before .before .before .before .before .read-command .last .1 .0))) (c .before .before .before .fresh .result) (c .before .before .before .fresh .ensures .0) (c .put-done .result) (c .put-done .ensures .0),
-      (
-        printed-bytes line w Done done-printed (calls.fresh (take (x .0 .0) (c .before .before .before .before .before .before .before .before .before .before .before .read-command .last .1 .0)) w) (e ∙ fresh-made w (take (x .0 .0) (c .before .before .before .before .before .before .before .before .before .before .before .read-command .last .1 .0))) (c .before .before .before .fresh .result) (c .before .before .before .fresh .ensures .0) (c .before .before .before .before .before .before .before .before .before .before .before .before .before .before .before .args .out .now) (c .put-done .last .0) (c .put-done .ensures .1),
-        left-words line w Done done-printed (calls.fresh (take (x .0 .0) (c .before .before .before .before .before .before .before .before .before .before .before .read-command .last .1 .0)) w) (e ∙ fresh-made w (take (x .0 .0) (c .before .before .before .before .before .before .before .before .before .before .before .read-command .last .1 .0))) (c .before .before .before .fresh .result) (c .before .before .before .fresh .ensures .0) (c .before .before .before .fresh .last .0) (c .before .before .before .fresh .ensures .1),
-      ),
-    )
+    let r = c .before .before .before .before .before .before .before .before .before .before .before .before .before in
+    let x = c .before .before .before .before .before .before .before .before .before .before .n .given in
+    let made = c .before .before .before .before .before .fresh in
+    let put = c .before .before .put-done in
+    call r _ (x .1) Done done-printed (calls.fresh (take (x .0 .0) (list r)) (words r)) refl (made .result) (made .ensures .0) (put .result) (put .ensures .0) (put .last .0) (put .ensures .1) (put .kept .0) (made .last .0) (made .ensures .1)
 
 returns-2 : tie.Need-returns-2
+unfolding performed
 returns-2 c =
-    let line = c .before .before .before .before .before .before .before .before .before .before .before .before .before .before .args .line .now in
-    let w = c .before .before .before .before .before .before .before .before .before .before .before .before .before .before .args .sheet .now in
-    let x = c .before .before .before .before .before .before .before .lot .given in
-    let e = of-command line w (command.opening (x .0 .0)) (c .before .before .before .before .before .before .before .before .before .before .read-command .ensures .0 ∙ ap (λ (r : Command). meaning r (c .before .before .before .before .before .before .before .before .before .before .read-command .last .1 .0)) (x .1)) in (
-      printed-length line w Done done-printed (calls.open-lot (x .0 .0) w) (e ∙ opening-made w (x .0 .0)) (c .before .before .before .«open» .result) (c .before .before .before .«open» .ensures .0) (c .put-done2 .result) (c .put-done2 .ensures .0),
-      (
-        printed-bytes line w Done done-printed (calls.open-lot (x .0 .0) w) (e ∙ opening-made w (x .0 .0)) (c .before .before .before .«open» .result) (c .before .before .before .«open» .ensures .0) (c .before .before .before .before .before .before .before .before .before .before .before .before .before .before .args .out .now) (c .put-done2 .last .0) (c .put-done2 .ensures .1),
-        left-words line w Done done-printed (calls.open-lot (x .0 .0) w) (e ∙ opening-made w (x .0 .0)) (c .before .before .before .«open» .result) (c .before .before .before .«open» .ensures .0) (c .before .before .before .«open» .last .0) (c .before .before .before .«open» .ensures .1),
-      ),
-    )
+    let r = c .before .before .before .before .before .before .before .before .before .before .before .before in
+    let x = c .before .before .before .before .before .before .before .before .before .lot .given in
+    let made = c .before .before .before .before .before .«open» in
+    let put = c .before .before .put-done2 in
+    call r _ (x .1) Done done-printed (calls.open-lot (x .0 .0) (words r)) refl (made .result) (made .ensures .0) (put .result) (put .ensures .0) (put .last .0) (put .ensures .1) (put .kept .0) (made .last .0) (made .ensures .1)
 
 returns-3 : tie.Need-returns-3
+unfolding performed
 returns-3 c =
-    let line = c .before .before .before .before .before .before .before .before .before .before .before .before .before .before .args .line .now in
-    let w = c .before .before .before .before .before .before .before .before .before .before .before .before .before .before .args .sheet .now in
-    let x = c .before .before .before .before .before .before .before .lot2 .given in
-    let e = of-command line w (command.inspecting (x .0 .0) (x .0 .1 .0)) (c .before .before .before .before .before .before .before .before .before .before .read-command .ensures .0 ∙ ap (λ (r : Command). meaning r (c .before .before .before .before .before .before .before .before .before .before .read-command .last .1 .0)) (x .1)) in (
-      printed-length line w Done done-printed (calls.inspect (x .0 .0) (x .0 .1 .0) w) (e ∙ inspecting-made w (x .0 .0) (x .0 .1 .0)) (c .before .before .before .inspect .result) (c .before .before .before .inspect .ensures .0) (c .put-done3 .result) (c .put-done3 .ensures .0),
-      (
-        printed-bytes line w Done done-printed (calls.inspect (x .0 .0) (x .0 .1 .0) w) (e ∙ inspecting-made w (x .0 .0) (x .0 .1 .0)) (c .before .before .before .inspect .result) (c .before .before .before .inspect .ensures .0) (c .before .before .before .before .before .before .before .before .before .before .before .before .before .before .args .out .now) (c .put-done3 .last .0) (c .put-done3 .ensures .1),
-        left-words line w Done done-printed (calls.inspect (x .0 .0) (x .0 .1 .0) w) (e ∙ inspecting-made w (x .0 .0) (x .0 .1 .0)) (c .before .before .before .inspect .result) (c .before .before .before .inspect .ensures .0) (c .before .before .before .inspect .last .0) (c .before .before .before .inspect .ensures .1),
-      ),
-    )
+    let r = c .before .before .before .before .before .before .before .before .before .before .before .before in
+    let x = c .before .before .before .before .before .before .before .before .before .lot2 .given in
+    let made = c .before .before .before .before .before .inspect in
+    let put = c .before .before .put-done3 in
+    call r _ (x .1) Done done-printed (calls.inspect (x .0 .0) (x .0 .1 .0) (words r)) refl (made .result) (made .ensures .0) (put .result) (put .ensures .0) (put .last .0) (put .ensures .1) (put .kept .0) (made .last .0) (made .ensures .1)
 
 returns-4 : tie.Need-returns-4
+unfolding performed
 returns-4 c =
-    let line = c .before .before .before .before .before .before .before .before .before .before .before .before .before .before .args .line .now in
-    let w = c .before .before .before .before .before .before .before .before .before .before .before .before .before .before .args .sheet .now in
-    let x = c .before .before .before .before .before .before .before .lot3 .given in
-    let e = of-command line w (command.striking (x .0 .0)) (c .before .before .before .before .before .before .before .before .before .before .read-command .ensures .0 ∙ ap (λ (r : Command). meaning r (c .before .before .before .before .before .before .before .before .before .before .read-command .last .1 .0)) (x .1)) in (
-      printed-length line w Done done-printed (calls.strike (x .0 .0) w) (e ∙ striking-made w (x .0 .0)) (c .before .before .before .strike .result) (c .before .before .before .strike .ensures .0) (c .put-done4 .result) (c .put-done4 .ensures .0),
-      (
-        printed-bytes line w Done done-printed (calls.strike (x .0 .0) w) (e ∙ striking-made w (x .0 .0)) (c .before .before .before .strike .result) (c .before .before .before .strike .ensures .0) (c .before .before .before .before .before .before .before .before .before .before .before .before .before .before .args .out .now) (c .put-done4 .last .0) (c .put-done4 .ensures .1),
-        left-words line w Done done-printed (calls.strike (x .0 .0) w) (e ∙ striking-made w (x .0 .0)) (c .before .before .before .strike .result) (c .before .before .before .strike .ensures .0) (c .before .before .before .strike .last .0) (c .before .before .before .strike .ensures .1),
-      ),
-    )
+    let r = c .before .before .before .before .before .before .before .before .before .before .before .before in
+    let x = c .before .before .before .before .before .before .before .before .before .lot3 .given in
+    let made = c .before .before .before .before .before .strike in
+    let put = c .before .before .put-done4 in
+    call r _ (x .1) Done done-printed (calls.strike (x .0 .0) (words r)) refl (made .result) (made .ensures .0) (put .result) (put .ensures .0) (put .last .0) (put .ensures .1) (put .kept .0) (made .last .0) (made .ensures .1)
 
 returns-5 : tie.Need-returns-5
+unfolding performed
 returns-5 c =
-    let line = c .before .before .before .before .before .before .before .before .before .before .before .before .args .line .now in
-    let w = c .before .before .before .before .before .before .before .before .before .before .before .before .args .sheet .now in
-    let x = c .before .before .before .before .before .lot4 .given in
-    let e = of-command line w (command.looking (x .0 .0)) (c .before .before .before .before .before .before .before .before .read-command .ensures .0 ∙ ap (λ (r : Command). meaning r (c .before .before .before .before .before .before .before .before .read-command .last .1 .0)) (x .1)) in (
-      printed-length line w Looked look-printed (calls.look (x .0 .0) w) (e ∙ looking-made w (x .0 .0)) (c .before .look .result) (c .before .look .ensures) (c .put-look .result) (c .put-look .ensures .0),
-      (
-        printed-bytes line w Looked look-printed (calls.look (x .0 .0) w) (e ∙ looking-made w (x .0 .0)) (c .before .look .result) (c .before .look .ensures) (c .before .before .before .before .before .before .before .before .before .before .before .before .args .out .now) (c .put-look .last .0) (c .put-look .ensures .1),
-        left-words line w Looked look-printed (calls.look (x .0 .0) w) (e ∙ looking-made w (x .0 .0)) (c .before .look .result) (c .before .look .ensures) w (sym (look-words (x .0 .0) w)),
-      ),
-    )
+    let r = c .before .before .before .before .before .before .before .before .before .before in
+    let x = c .before .before .before .before .before .before .before .lot4 .given in
+    let made = c .before .before .before .look in
+    let put = c .before .before .put-look in
+    call r _ (x .1) Looked look-printed (calls.look (x .0 .0) (words r)) refl (made .result) (made .ensures) (put .result) (put .ensures .0) (put .last .0) (put .ensures .1) (put .kept .0) (words r) (sym (look-words (x .0 .0) (words r)))
 
 returns-6 : tie.Need-returns-6
+unfolding performed
 returns-6 c =
-    let line = c .before .before .before .before .before .before .before .before .before .before .before .before .before .before .args .line .now in
-    let w = c .before .before .before .before .before .before .before .before .before .before .before .before .before .before .args .sheet .now in
-    let x = c .before .before .before .before .before .before .before .lot5 .given in
-    let e = of-command line w (command.closing (x .0 .0)) (c .before .before .before .before .before .before .before .before .before .before .read-command .ensures .0 ∙ ap (λ (r : Command). meaning r (c .before .before .before .before .before .before .before .before .before .before .read-command .last .1 .0)) (x .1)) in (
-      printed-length line w Done done-printed (calls.close (x .0 .0) w) (e ∙ closing-made w (x .0 .0)) (c .before .before .before .close .result) (c .before .before .before .close .ensures .0) (c .put-done5 .result) (c .put-done5 .ensures .0),
-      (
-        printed-bytes line w Done done-printed (calls.close (x .0 .0) w) (e ∙ closing-made w (x .0 .0)) (c .before .before .before .close .result) (c .before .before .before .close .ensures .0) (c .before .before .before .before .before .before .before .before .before .before .before .before .before .before .args .out .now) (c .put-done5 .last .0) (c .put-done5 .ensures .1),
-        left-words line w Done done-printed (calls.close (x .0 .0) w) (e ∙ closing-made w (x .0 .0)) (c .before .before .before .close .result) (c .before .before .before .close .ensures .0) (c .before .before .before .close .last .0) (c .before .before .before .close .ensures .1),
-      ),
-    )
+    let r = c .before .before .before .before .before .before .before .before .before .before .before .before in
+    let x = c .before .before .before .before .before .before .before .before .before .lot5 .given in
+    let made = c .before .before .before .before .before .close in
+    let put = c .before .before .put-done5 in
+    call r _ (x .1) Done done-printed (calls.close (x .0 .0) (words r)) refl (made .result) (made .ensures .0) (put .result) (put .ensures .0) (put .last .0) (put .ensures .1) (put .kept .0) (made .last .0) (made .ensures .1)
 
 returns-7 : tie.Need-returns-7
+unfolding performed
 returns-7 c =
-    let line = c .before .before .before .before .before .before .before .before .before .before .before .args .line .now in
-    let w = c .before .before .before .before .before .before .before .before .before .before .before .args .sheet .now in
-    let x = c .before .before .before .before .enum-told .given in
-    let e = of-command line w (command.tallying) (c .before .before .before .before .before .before .before .read-command .ensures .0 ∙ ap (λ (r : Command). meaning r (c .before .before .before .before .before .before .before .read-command .last .1 .0)) (x .1)) in (
-      printed-length line w Tallied tally-printed (calls.tally w) (e ∙ tallying-made w) (c .before .tally .result) (c .before .tally .ensures) (c .put-tally .result) (c .put-tally .ensures .0),
-      (
-        printed-bytes line w Tallied tally-printed (calls.tally w) (e ∙ tallying-made w) (c .before .tally .result) (c .before .tally .ensures) (c .before .before .before .before .before .before .before .before .before .before .before .args .out .now) (c .put-tally .last .0) (c .put-tally .ensures .1),
-        left-words line w Tallied tally-printed (calls.tally w) (e ∙ tallying-made w) (c .before .tally .result) (c .before .tally .ensures) w (sym (tally-words w)),
-      ),
-    )
+    let r = c .before .before .before .before .before .before .before .before .before in
+    let x = c .before .before .before .before .before .before .enum-told .given in
+    let made = c .before .before .before .tally in
+    let put = c .before .before .put-tally in
+    call r _ (x .1) Tallied tally-printed (calls.tally (words r)) refl (made .result) (made .ensures) (put .result) (put .ensures .0) (put .last .0) (put .ensures .1) (put .kept .0) (words r) (sym (tally-words (words r)))
 
 returns-8 : tie.Need-returns-8
 returns-8 c =
-    let line = c .before .before .before .before .before .before .before .before .before .args .line .now in
-    let w = c .before .before .before .before .before .before .before .before .before .args .sheet .now in
-    let e = of-none line w (c .before .before .before .before .before .read-command .ensures .0 ∙ ap (λ (r : Command). meaning r (c .before .before .before .before .before .read-command .last .1 .0)) (c .before .before .enum-told2 .given .1)) in (
-      c .put-refusal .ensures .0 ∙ ap (λ (a : calls.Outcome (List ℕ)). length (a .reply)) (sym e),
-      (
-        c .put-refusal .ensures .1 ∙ ap (λ (a : calls.Outcome (List ℕ)). written (c .before .before .before .before .before .before .before .before .before .args .out .now) 0 (a .reply)) (sym e),
-        ap (λ (a : calls.Outcome (List ℕ)). a .words) (sym e),
-      ),
-    )
+    let r = c .before .before .before .before .before .before .before in
+    let put = c .before .before .put-refusal in
+    call r _ (c .before .before .before .before .enum-told2 .given .1) ℕ refusal (record { reply = not-a-command; words = words r }) refl not-a-command refl (put .result) (put .ensures .0) (put .last .0) (put .ensures .1) (put .kept .0) (words r) refl
 
 pub answer-spec : {M : Type 1} → statement M
 answer-spec =
@@ -164,17 +153,25 @@ answer-spec =
     (λ c. search needs)
     (λ c κs. search needs)
     (λ c. search needs)
+    (λ c. search needs)
     returns
+    (λ c. search needs)
     (λ c. search needs)
     returns-2
     (λ c. search needs)
+    (λ c. search needs)
     returns-3
+    (λ c. search needs)
     (λ c. search needs)
     returns-4
     (λ c. search needs)
+    (λ c. search needs)
     returns-5
+    (λ c. search needs)
     (λ c. search needs)
     returns-6
     (λ c. search needs)
+    (λ c. search needs)
     returns-7
+    (λ c. search needs)
     returns-8)

@@ -4,6 +4,7 @@ use native.Mathlib.Omega.{arith}
 use mathlib.Core.Path.{sym, _∙_}
 use lib.ListN.{length, length-drop, drop}
 use borrow.Author.Needs.{needs}
+use Rattle.command.specs.Command.{space}
 use Rattle.command.proofs.OneField.{until-within}
 use Rattle.command.proofs.OneNumber.{Reading, started, no-room, all-numbers, bad-number, next-number}
 use Rattle.command.proofs.arguments.read_numbers.Statement.{statement}
@@ -30,12 +31,12 @@ returns c =
     no-room (a .line .now) (a .start) (l .list) (l .n) (l .at) (l .inv) (c .before .loop-test .taken) (omega (arith, l .inv .long, c .if1 .taken))
 
 -- the field's end lies in the line
-end-within : (c : tie.After-field-end Inv-loop μ-loop) → (c .field-end .result ≤ length (c .before .before .before .before .before .before .args .line .now)) × (c .before .before .before .loop .at + 1 ≤ c .field-end .result)
+end-within : (c : tie.After-find Inv-loop μ-loop) → (c .find .result ≤ length (c .before .before .before .before .before .before .args .line .now)) × (c .before .before .before .loop .at + 1 ≤ c .find .result)
 end-within c =
     let l = c .before .before .before .loop in
     let line = c .before .before .before .before .before .before .args .line .now in
-    let u = until-within (drop (l .at + 1) line) in
-    let e = c .field-end .ensures in
+    let u = until-within space (drop (l .at + 1) line) in
+    let e = c .find .ensures in
     omega (arith, length-drop (l .at + 1) line)
 
 same-length-2 : tie.Need-same-length-2 Inv-loop μ-loop
@@ -45,7 +46,7 @@ returns-2 : tie.Need-returns-2 Inv-loop μ-loop
 returns-2 c =
     let l = c .before .before .before .before .before .before .before .loop in
     let a = c .before .before .before .before .before .before .before .before .before .before .args in
-    bad-number (a .line .now) (a .start) (l .list) (l .n) (l .at) (l .inv) (c .before .before .before .before .before .before .loop-test .taken) (c .before .before .before .before .field-end .result) (c .before .before .before .before .field-end .ensures)
+    bad-number (a .line .now) (a .start) (l .list) (l .n) (l .at) (l .inv) (c .before .before .before .before .before .before .loop-test .taken) (c .before .before .before .before .find .result) (c .before .before .before .before .find .ensures)
     (sym (c .enum-told .given .1) ∙ c .before .before .read-number .ensures)
 
 slice-write-list : tie.Need-slice-write-list Inv-loop μ-loop
@@ -58,7 +59,7 @@ loop-again : tie.Need-loop-again Inv-loop μ-loop
 loop-again c =
     let l = c .before .before .before .before .before .before .before .before .loop in
     let a = c .before .before .before .before .before .before .before .before .before .before .before .args in
-    next-number (a .line .now) (a .start) (l .list) (l .n) (l .at) (l .inv) (c .before .before .before .before .before .before .before .loop-test .taken) (c .before .before .before .before .before .field-end .result) (c .before .before .before .before .before .field-end .ensures)
+    next-number (a .line .now) (a .start) (l .list) (l .n) (l .at) (l .inv) (c .before .before .before .before .before .before .before .loop-test .taken) (c .before .before .before .before .before .find .result) (c .before .before .before .before .before .find .ensures)
     _ (sym (c .before .value .given .1) ∙ c .before .before .before .read-number .ensures) (omega (arith, l .inv .long, c .before .before .before .before .before .before .if1 .left))
 
 same-length-3 : tie.Need-same-length-3 Inv-loop μ-loop

@@ -14,20 +14,20 @@ returns : tie.Need-returns
 returns c = (too-long (c .before .before .before .args .line .now) (c .if1 .taken), omega arith)
 
 returns-2 : tie.Need-returns-2
-returns-2 c = (no-letter-field (c .before .before .before .before .before .args .line .now) (c .before .before .if1 .left) (λ q. c .if2 .taken (c .before .field-end .ensures ∙ q)), omega arith)
+returns-2 c = (no-letter-field (c .before .before .before .before .before .args .line .now) (c .before .before .if1 .left) (λ q. c .if2 .taken (c .before .find .ensures ∙ q)), omega arith)
 
 read-numbers-requires : tie.Need-read-numbers-requires
 read-numbers-requires c κs =
-    (some-byte (c .before .before .before .before .before .before .args .line .now) (c .before .before .before .if1 .left) (sym (c .before .before .field-end .ensures) ∙ c .before .if2 .left), c .before .before .before .before .before .before .pre)
+    (some-byte (c .before .before .before .before .before .before .args .line .now) (c .before .before .before .if1 .left) (sym (c .before .before .find .ensures) ∙ c .before .if2 .left), c .before .before .before .before .before .before .pre)
 
 shared-slice-read-command-of : tie.Need-shared-slice-read-command-of
-shared-slice-read-command-of c = some-byte (c .before .before .before .before .before .before .before .before .before .before .before .before .before .args .line .now) (c .before .before .before .before .before .before .before .before .before .before .if1 .left) (sym (c .before .before .before .before .before .before .before .before .before .field-end .ensures) ∙ c .before .before .before .before .before .before .before .before .if2 .left)
+shared-slice-read-command-of c = some-byte (c .before .before .before .before .before .before .before .before .before .before .before .before .before .args .line .now) (c .before .before .before .before .before .before .before .before .before .before .if1 .left) (sym (c .before .before .before .before .before .before .before .before .before .find .ensures) ∙ c .before .before .before .before .before .before .before .before .if2 .left)
 
 -- the numbers that were read
 read : (c : tie.After-shared-slice-known2) → (c .before .before .n .given .0 .0 ≤ most-numbers) × (command (c .before .before .before .before .before .before .before .before .before .before .before .before .before .args .line .now)
     ≡ by-letter forms (getD (c .before .before .before .before .before .before .before .before .before .before .before .before .before .args .line .now) 0 0) (take (c .before .before .n .given .0 .0) (c .before .before .before .before .before .before .read-numbers .last .1 .1 .0)))
 read c =
-    good-numbers (c .before .before .before .before .before .before .before .before .before .before .before .before .before .args .line .now) (c .before .before .before .before .before .before .before .before .before .before .if1 .left) (sym (c .before .before .before .before .before .before .before .before .before .field-end .ensures) ∙ c .before .before .before .before .before .before .before .before .if2 .left)
+    good-numbers (c .before .before .before .before .before .before .before .before .before .before .before .before .before .args .line .now) (c .before .before .before .before .before .before .before .before .before .before .if1 .left) (sym (c .before .before .before .before .before .before .before .before .before .find .ensures) ∙ c .before .before .before .before .before .before .before .before .if2 .left)
     (c .before .before .n .given .0 .0) (c .before .before .before .before .before .before .read-numbers .last .1 .1 .0) (sym (c .before .before .n .given .1) ∙ c .before .before .before .before .before .before .read-numbers .ensures .0) (c .before .before .before .before .before .before .read-numbers .ensures .1)
 
 command-of-requires : tie.Need-command-of-requires
@@ -35,7 +35,7 @@ command-of-requires c κs = (read (c .before) .0, c .before .before .before .bef
 
 returns-3 : tie.Need-returns-3
 returns-3 c = (
-  bad-numbers (c .before .before .before .before .before .before .before .before .before .before .before .args .line .now) (c .before .before .before .before .before .before .before .before .if1 .left) (sym (c .before .before .before .before .before .before .before .field-end .ensures) ∙ c .before .before .before .before .before .before .if2 .left)
+  bad-numbers (c .before .before .before .before .before .before .before .before .before .before .before .args .line .now) (c .before .before .before .before .before .before .before .before .if1 .left) (sym (c .before .before .before .before .before .before .before .find .ensures) ∙ c .before .before .before .before .before .before .if2 .left)
       (sym (c .enum-told .given .1) ∙ c .before .before .before .before .read-numbers .ensures .0),
   omega arith,
 )

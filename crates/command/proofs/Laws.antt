@@ -8,7 +8,6 @@ use Rattle.command.proofs.Answers.{of-command, of-none}
 
 pub line-laws : (line w : List ℕ) → Line-laws line w
 line-laws line w = record {
-  at-most-one = λ c d e f. cc;
   makes-call = λ c e. of-command line w c e;
   gets-sixteen = λ e. ap (λ (a : Outcome (List ℕ)). a .reply) (of-none line w e);
   no-call = λ e. ap (λ (a : Outcome (List ℕ)). a .words) (of-none line w e);
