@@ -305,7 +305,7 @@ module _ {block line₀ : List ℕ} {held₀ : ℕ} {sheet₀ replies₀ : List 
         given : Gives (answer whole sheet) (take (length replies - used) (drop used replies)) r part′ sheet′
         given = rw same-line at g
 
-        pub used-fits : used + r ≤ length replies
+        used-fits : used + r ≤ length replies
         used-fits = omega (arith, given .within, ap length (part-to-end replies used), length-drop used replies, replies-length, t .room)
 
         bound : stop < length rest

@@ -40,7 +40,7 @@ end-within c =
     omega (arith, length-drop (l .at + 1) line)
 
 same-length-2 : tie.Need-same-length-2 Inv-loop μ-loop
-same-length-2 c = c .before .before .before .before .before .before .before .loop .inv .long ∙ sym (c .before .before .before .before .before .before .before .before .before .before .pre .1)
+same-length-2 c = let t = c .before .before .before .before .before .before .before in t .loop .inv .long ∙ sym (t .before .before .before .pre .1)
 
 returns-2 : tie.Need-returns-2 Inv-loop μ-loop
 returns-2 c =

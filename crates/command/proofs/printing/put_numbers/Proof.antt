@@ -38,10 +38,11 @@ put-number-requires c κs =
 loop-again : tie.Need-loop-again Inv-loop μ-loop
 loop-again c =
     let l = c .before .before .before .before .before .before .loop in
-    let a = c .before .before .before .before .before .before .before .before .before .args in
+    let s = c .before .before .before .before .before .before .before .before .before in
+    let a = s .args in
     let told = c .before .before .put-number in
     let small : getD (a .numbers .now) (l .i) 0 ≤ largest = omega (arith, c .before .before .before .shared-slice-known2 .given (l .i)) in
-    next-spaced (a .out .now) (a .start) (a .numbers .now) (l .out) (l .at) (l .i) (c .before .before .before .before .before .before .before .before .before .pre) (l .inv) (c .before .before .before .before .before .loop-test .taken) small
+    next-spaced (a .out .now) (a .start) (a .numbers .now) (l .out) (l .at) (l .i) (s .pre) (l .inv) (c .before .before .before .before .before .loop-test .taken) small
     (told .last .0) (told .result) (told .ensures .1) (told .ensures .0)
 
 same-length : tie.Need-same-length Inv-loop μ-loop

@@ -10,26 +10,28 @@ use Rattle.command.proofs.replies.put_line.Tie as tie
 
 slice-write-out : tie.Need-slice-write-out
 slice-write-out c =
-    let a = c .before .before .before .before .before .before .before .before .before .before .before .args in
+    let s = c .before .before .before .before .before .before .before .before .before .before .before in
+    let a = s .args in
     let b = c .before .before .before .before .before .before .put-bytes in
     let n = c .before .before .put-numbers in
-    line-room (a .out .now) (a .word .now) (a .numbers .now) (b .last .0) (b .result) (n .last .0) (n .result) (c .before .before .before .before .before .before .before .before .before .before .before .pre)
+    line-room (a .out .now) (a .word .now) (a .numbers .now) (b .last .0) (b .result) (n .last .0) (n .result) (s .pre)
     (b .ensures .1) (b .ensures .0) (n .ensures .1) (n .ensures .0 .0) (n .ensures .0 .1)
 
 add-result : tie.Need-add-result
-add-result c = omega (arith, c .before .before .before .before .before .before .put-bytes .ensures .0, c .before .before .put-numbers .ensures .0 .1, c .before .before .before .before .before .before .before .before .before .before .before .pre)
+add-result c = let t = c .before .before .before .before .before .before in omega (arith, t .put-bytes .ensures .0, c .before .before .put-numbers .ensures .0 .1, t .before .before .before .before .before .pre)
 
 same-length : tie.Need-same-length
 same-length c = length-set (c .before .before .put-numbers .last .0) (c .before .before .put-numbers .result) end-of-line ∙ c .before .before .put-numbers .kept .0 ∙ c .before .before .before .before .before .before .put-bytes .kept .0
 
 returns : tie.Need-returns
 returns c =
-    let a = c .before .before .before .before .before .before .before .before .before .before .before .args in
+    let s = c .before .before .before .before .before .before .before .before .before .before .before in
+    let a = s .args in
     let b = c .before .before .before .before .before .before .put-bytes in
     let n = c .before .before .put-numbers in (
-      line-length (a .out .now) (a .word .now) (a .numbers .now) (b .last .0) (b .result) (n .last .0) (n .result) (c .before .before .before .before .before .before .before .before .before .before .before .pre)
+      line-length (a .out .now) (a .word .now) (a .numbers .now) (b .last .0) (b .result) (n .last .0) (n .result) (s .pre)
           (b .ensures .1) (b .ensures .0) (n .ensures .1) (n .ensures .0 .0) (n .ensures .0 .1),
-      line-written (a .out .now) (a .word .now) (a .numbers .now) (b .last .0) (b .result) (n .last .0) (n .result) (c .before .before .before .before .before .before .before .before .before .before .before .pre)
+      line-written (a .out .now) (a .word .now) (a .numbers .now) (b .last .0) (b .result) (n .last .0) (n .result) (s .pre)
           (b .ensures .1) (b .ensures .0) (n .ensures .1) (n .ensures .0 .0) (n .ensures .0 .1),
     )
 

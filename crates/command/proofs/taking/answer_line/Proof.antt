@@ -38,9 +38,10 @@ slice-aggregate-answer c = sym (length-take-le _ _ (array-share-prefix-whole (c 
 
 returns-2 : tie.Need-returns-2
 returns-2 c =
-    let s = c .before .before .before .before .before .before .before .before .before .before .before .before .before .before .before .before .before .before .before .before in
-    let put = c .before .before .before .before .before .before .before .before .before .before .before .before .put-bytes in
     let more = c .before .before .before .before .before .before .before .before .before .keep in
+    let t = c .before .before .before .before .before .before .before .before .before .before .before .before in
+    let put = t .put-bytes in
+    let s = t .before .before .before .before .before .before .before .before in
     let e = whole-line (s .args .line .now) (s .args .n) (s .pre .1) (s .pre .0) _ (put .last .0) (more .last .0) (s .args .rest .now) (more .result) (put .ensures .1) (more .ensures .1) (more .ensures .0) in
     gives-as (ap (λ (l : List ℕ). answer l (s .args .sheet .now)) e) (c .before .before .before .before .answer2 .ensures)
 
