@@ -1,6 +1,6 @@
 //! A script for the program `lots`: the listing of 01, each bad form of a line,
-//! each refusal that the program can give, a sheet filled and emptied, and random
-//! lines. The last line lacks its byte 10.
+//! each refusal that the program can give, a sheet filled and emptied, random lines,
+//! and many short lines with longer replies. The last line lacks its byte 10.
 
 use crate::random::Random;
 
@@ -19,6 +19,7 @@ pub fn all() -> Vec<u8> {
     for seed in 1..=12 {
         random(&mut script, seed);
     }
+    crowded(&mut script);
     script.extend(b"t");
     script
 }
@@ -187,5 +188,15 @@ fn random(script: &mut Vec<u8>, seed: u64) {
             _ => format!("i {lot} {}", random.between(0, 3)),
         };
         line(script, &text);
+    }
+}
+
+/// The replies to 4,096 bytes of such lines take more than 16,384 bytes.
+fn crowded(script: &mut Vec<u8>) {
+    for _ in 0..5_000 {
+        line(script, "");
+    }
+    for _ in 0..2_500 {
+        line(script, "t");
     }
 }
