@@ -1,4 +1,11 @@
-// The fields and numbers of a case line, for the programs that answer test cases.
+// For the programs that answer test cases: the lines of standard input, the fields and numbers of a line, and
+// the numbers of an answer.
+mod lines;
+pub mod print;
+
+pub use lines::Input;
+pub use lines::next_line;
+pub use lines::start;
 ghost use Prim.Native.Nat.{_≤_};
 ghost use lib.ListN.{length};
 

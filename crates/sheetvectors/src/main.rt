@@ -4,20 +4,6 @@ mod calls;
 mod fill;
 mod print;
 
-use libc::STDIN_FILENO;
-
-// The bytes of the line that has not ended yet, and the words of the sheet, of their arrays.
-struct Sizes {
-    line: usize,
-    sheet: usize,
-}
-
-// What a read leaves.
-enum Block {
-    Line(Sizes),
-    End,
-}
-
 // Answers a line. The result is the number of words of the sheet.
 fn command(text: &[u8], words: &mut [u32], size: usize) -> usize {
     if text.len() == 0 || words.len() < size {
@@ -46,61 +32,21 @@ fn answer(line: &[u8], n: usize, words: &mut [u32], size: usize) -> usize {
     size
 }
 
-// Adds a byte to a line, or answers the line if the byte ends it. The number of bytes stays at the
-// array's length for a line that is too long.
-fn take_byte(line: &mut [u8], words: &mut [u32], sizes: Sizes, byte: u8) -> Sizes {
-    let n = sizes.line;
-    if byte == b'\n' {
-        let size = answer(line, n, words, sizes.sheet);
-        return Sizes {
-            line: 0,
-            sheet: size,
-        };
-    }
-    if n < line.len() {
-        line[n] = byte;
-        return Sizes {
-            line: n + 1,
-            sheet: sizes.sheet,
-        };
-    }
-    sizes
-}
-
-fn take_bytes(line: &mut [u8], words: &mut [u32], sizes: Sizes, bytes: &[u8]) -> Sizes {
-    let mut next = sizes;
-    let mut i = 0;
-    while i < bytes.len() {
-        next = take_byte(line, words, next, bytes[i]);
-        i += 1;
-    }
-    next
-}
-
-// Reads once and answers the lines that end in what came. A failed read counts as the input's end.
-// Each line ends in a byte 10.
-fn take_block(line: &mut [u8; 4096], words: &mut [u32; 65540], sizes: Sizes) -> Block {
-    let mut block = io::large_buffer();
-    let got = libc::read(STDIN_FILENO, &mut block);
-    if got > 0 {
-        let count = io::count(got, &block);
-        return Block::Line(take_bytes(line, words, sizes, &block[..count]));
-    }
-    Block::End
-}
-
 // A proved loop has to end, and nothing says that the input does. So the loop counts its turns
 // down, from a number that no run uses up.
 fn main() {
+    let mut block = [0u8; 65536];
     let mut line = [0u8; 4096];
     let mut words = [0u32; 65540];
-    let mut sizes = Sizes { line: 0, sheet: 0 };
+    let mut size = 0;
+    let mut input = cases::start();
     let mut turns = u64::MAX;
     while turns > 0 {
-        let Block::Line(next) = take_block(&mut line, &mut words, sizes) else {
+        input = cases::next_line(&mut block, input, &mut line);
+        if input.end {
             return;
-        };
-        sizes = next;
+        }
+        size = answer(&line, input.line, &mut words, size);
         turns -= 1;
     }
 }

@@ -1,34 +1,28 @@
 // The answers, one line each: a reply, then the digest of all words of the sheet.
-use libc::STDOUT_FILENO;
+use cases::print::last;
+use cases::print::number;
+use cases::print::text;
 use sheet::Done;
 use sheet::Estimated;
 use sheet::Looked;
 use sheet::Tallied;
 
 pub fn bad_line() {
-    io::write_all(STDOUT_FILENO, b"bad line\n");
+    text(b"bad line\n");
 }
 
 pub fn ok() {
-    io::write_all(STDOUT_FILENO, b"ok\n");
-}
-
-// A number and a space.
-fn number(value: u64) {
-    io::print_decimal(STDOUT_FILENO, value);
-    io::write_all(STDOUT_FILENO, b" ");
+    text(b"ok\n");
 }
 
 fn refused(value: u32) {
-    io::write_all(STDOUT_FILENO, b"no ");
+    text(b"no ");
     number(value as u64);
 }
 
 pub fn done(reply: Done) {
     match reply {
-        Done::Ok => {
-            io::write_all(STDOUT_FILENO, b"ok ");
-        }
+        Done::Ok => text(b"ok "),
         Done::Refused(n) => refused(n),
     }
 }
@@ -89,6 +83,5 @@ fn digest_of(words: &[u32]) -> u64 {
 }
 
 pub fn digest(words: &[u32]) {
-    io::print_decimal(STDOUT_FILENO, digest_of(words));
-    io::write_all(STDOUT_FILENO, b"\n");
+    last(digest_of(words));
 }

@@ -5,14 +5,7 @@ mod lists;
 mod plans;
 mod print;
 
-use libc::STDIN_FILENO;
 use print::Reply;
-
-// What a read leaves: the number of bytes of the line that has not ended yet, or the input's end.
-enum Block {
-    Line(usize),
-    End,
-}
 
 fn reply(line: &[u8]) -> Reply {
     if line.len() == 0 {
@@ -37,56 +30,19 @@ fn answer(line: &[u8], n: usize) {
     }
 }
 
-// Adds a byte to a line of n bytes, or answers the line if the byte ends it. The result is the new
-// number of bytes, which stays at the array's length for a line that is too long.
-fn take_byte(line: &mut [u8], n: usize, byte: u8) -> usize {
-    if byte == b'\n' {
-        answer(line, n);
-        return 0;
-    }
-    if n < line.len() {
-        line[n] = byte;
-        return n + 1;
-    }
-    n
-}
-
-fn take_bytes(line: &mut [u8], n: usize, bytes: &[u8]) -> usize {
-    let mut used = n;
-    let mut i = 0;
-    while i < bytes.len() {
-        used = take_byte(line, used, bytes[i]);
-        i += 1;
-    }
-    used
-}
-
-// Reads once and answers the lines that end in what came. A failed read counts as the input's end.
-// The last line may lack its byte 10.
-fn take_block(line: &mut [u8; 4096], n: usize) -> Block {
-    let mut block = io::large_buffer();
-    let got = libc::read(STDIN_FILENO, &mut block);
-    if got > 0 {
-        let count = io::count(got, &block);
-        return Block::Line(take_bytes(line, n, &block[..count]));
-    }
-    if n > 0 {
-        answer(line, n);
-    }
-    Block::End
-}
-
 // A proved loop has to end, and nothing says that the input does. So the loop counts its turns
 // down, from a number that no run uses up.
 fn main() {
+    let mut block = [0u8; 65536];
     let mut line = [0u8; 4096];
-    let mut n = 0;
+    let mut input = cases::start();
     let mut turns = u64::MAX;
     while turns > 0 {
-        let Block::Line(used) = take_block(&mut line, n) else {
+        input = cases::next_line(&mut block, input, &mut line);
+        if input.end {
             return;
-        };
-        n = used;
+        }
+        answer(&line, input.line);
         turns -= 1;
     }
 }
