@@ -1,10 +1,11 @@
 -- What holds of every line and every sheet: statements alone, proved in proofs/Laws.antt.
-use Prim.Native.Nat.{ℕ}
+use Prim.Native.Nat.{ℕ, _≤_}
 use mathlib.Core.Path.{_≡_}
 use mathlib.Core.Option.{none, some}
 use mathlib.Core.List.{List}
+use lib.ListN.{length}
 use Rattle.command.specs.Command.{Command, command}
-use Rattle.command.specs.Printed.{performed, refusal, not-a-command, answer}
+use Rattle.command.specs.Printed.{longest-reply, performed, refusal, not-a-command, answer}
 
 pub record Line-laws (line w : List ℕ) : Type 0 where
   -- a command makes its call
@@ -12,3 +13,5 @@ pub record Line-laws (line w : List ℕ) : Type 0 where
   -- any other line gets 16 and makes no call: every word stays
   pub gets-sixteen : command line ≡ none → answer line w .reply ≡ refusal not-a-command
   pub no-call : command line ≡ none → answer line w .words ≡ w
+  -- no reply is longer than the room that is kept for one
+  pub longest : length (answer line w .reply) ≤ longest-reply
