@@ -1,19 +1,19 @@
 -- The replies do not depend on how the input is cut into blocks; and what the code takes of a block. Assumes nothing.
-use Prim.Native.Nat.{ℕ, zero, suc, _+_, _-_, _≤_, _<_}
+use Prim.Native.Nat.{ℕ, zero, suc, _≤_, _<_}
 use native.Mathlib.Omega.{arith}
 use mathlib.Core.Path.{_≡_, refl, ap, sym, _∙_}
 use mathlib.Core.Bool.{Bool, true, false, cond}
 use mathlib.Core.Option.{none}
 use mathlib.Core.List.{List, [], _∷_, _++_, append-assoc, append-nil}
-use lib.ListN.{length, take, drop, length-append, length-take}
+use lib.ListN.{length, take, length-take}
 use lib.Seq.{take-all, length-take-le}
 use lib.Dec.{leb, eqb}
-use borrow.Author.Tests.{lt-leb, le-leb, ne-eqb, leb-true, leb-false}
+use borrow.Author.Tests.{lt-leb, ne-eqb, leb-true, leb-false}
 use Rattle.sheetmodel.specs.Calls.{Outcome}
 use Rattle.command.specs.Command.{longest-line, in-front, fields, of-fields, command}
-use Rattle.command.specs.Printed.{end-of-line, longest-reply, answered, answer}
+use Rattle.command.specs.Printed.{end-of-line, answered, answer}
 use Rattle.command.specs.Lines.{lines, replied, answers, session}
-use Rattle.command.specs.Blocks.{most-kept, kept, Fed, byte-fed, after-replies, fed, input-ended, blocks-fed, joined, Block-law, Kept-law, taken}
+use Rattle.command.specs.Blocks.{most-kept, kept, Fed, byte-fed, after-replies, fed, input-ended, blocks-fed, joined, Block-law, Kept-law}
 
 -- ---- what is kept of a line
 

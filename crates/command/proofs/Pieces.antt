@@ -1,12 +1,11 @@
 -- A block taken line by line: what is fed and how much is taken up to the next byte 10. Assumes nothing.
 use Prim.Native.Nat.{ℕ, zero, suc, _+_, _-_, _≤_, _<_}
 use native.Mathlib.Omega.{arith}
-use native.Mathlib.Numerals.{add-one}
 use mathlib.Core.Path.{_≡_, refl, ap, sym, _∙_}
 use mathlib.Core.Bool.{Bool, true, false, cond}
 use mathlib.Core.List.{List, [], _∷_, _++_, append-assoc, append-nil}
 use lib.ListN.{length, take, drop, getD, take-append-drop, length-append, length-drop, drop-of-length-le}
-use lib.Seq.{take-all, take-at, take-add, take-suc, take-append-seam, take-append-add, drop-drop, length-take-le}
+use lib.Seq.{take-all, take-add, take-suc, take-append-seam, take-append-add, drop-drop, length-take-le}
 use lib.Dec.{leb, eqb}
 use borrow.Author.Tests.{lt-leb, le-leb, eqb-true}
 use borrow.Rule.Slice.PartAt.{part-to-end}

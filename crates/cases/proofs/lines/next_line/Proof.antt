@@ -1,5 +1,5 @@
 -- `cases::next_line` is safe and ends. The measure is the number of turns that are left; the line's array keeps its length. Assumes nothing.
-use mathlib.Core.Path.{_≡_, _∙_}
+use mathlib.Core.Path.{_≡_}
 use native.Mathlib.Omega.{arith}
 use lib.ListN.{length}
 use Rattle.cases.proofs.lines.next_line.Statement.{statement}

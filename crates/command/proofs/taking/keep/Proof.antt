@@ -2,7 +2,7 @@
 use Prim.Native.Nat.{_≤_, _+_, _-_}
 use native.Mathlib.Omega.{arith}
 use mathlib.Core.Path.{refl, sym}
-use lib.ListN.{length, take}
+use lib.ListN.{length}
 use lib.Seq.{take-all, length-take-le}
 use borrow.Author.Needs.{needs}
 use Rattle.command.proofs.Pieces.{keeps}

@@ -2,8 +2,7 @@
 use Prim.Native.Nat.{_-_, _≤_}
 use native.Mathlib.Omega.{arith}
 use mathlib.Core.Path.{_≡_, ap, _∙_}
-use lib.ListN.{length, take, drop, length-drop}
-use borrow.Author.Needs.{needs}
+use lib.ListN.{length, length-drop}
 use borrow.Rule.Slice.PartAt.{part-to-end}
 use Rattle.command.specs.Blocks.{most-kept}
 use Rattle.command.specs.Printed.{longest-reply}
