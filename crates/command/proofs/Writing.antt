@@ -7,7 +7,8 @@ use mathlib.Core.Path.{_≡_, ap, sym, _∙_}
 use mathlib.Core.List.{List, [], _∷_, _++_, append-assoc, append-nil}
 use lib.ListN.{length, take, drop, getD, set, take-append-drop, length-append, length-drop}
 use lib.Seq.{set-split, length-take-le, take-all, take-at, take-suc, drop-append-add, drop-drop}
-use Rattle.command.specs.Decimal.{largest, digit-byte, printed}
+use Rattle.sheetmodel.specs.Layout.{largest}
+use Rattle.command.specs.Decimal.{digit-byte, printed}
 use Rattle.command.specs.Command.{space}
 use Rattle.command.specs.Printed.{spaced, end-of-line, reply-line}
 use Rattle.command.specs.Written.{written}

@@ -6,11 +6,9 @@ use mathlib.Core.Option.{Option, none, some}
 use mathlib.Core.List.{List, [], _∷_, _++_}
 use lib.ListN.{length}
 use lib.Dec.{leb, ltb}
+use Rattle.sheetmodel.specs.Layout.{largest}
 
 -- ---- a number read
-
-abbrev pub largest : ℕ
-largest = 4294967295
 
 abbrev pub most-digits : ℕ
 most-digits = 10

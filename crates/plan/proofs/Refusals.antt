@@ -3,13 +3,13 @@
 use Prim.Native.Nat.{ℕ, _+_, _≤_, _<_}
 use mathlib.Core.Path.{_≡_, refl, ap}
 use mathlib.Core.Logic.{_↔_, _⊎_, inl, inr}
-use mathlib.Core.Bool.{Bool, true, false, cond, _&&_, and-eq-true-iff}
+use mathlib.Core.Bool.{Bool, true, false, cond, _&&_}
 use mathlib.Core.List.{List, [], _∷_, _++_}
 use lib.ListN.{length}
 use lib.Dec.{leb, ltb}
 use native.Mathlib.Omega.{arith}
 use borrow.Author.Tests.{leb-true, ltb-true}
-use Rattle.plan.specs.Refusal.{Refusal, first-refusal, table, place, in-order, Applies, First, Refused-by, Refusal-law, None-applies, First-refusal, Refused-exactly, from-one, Never-zero}
+use Rattle.plan.specs.Refusal.{Refusal, first-refusal, table, place, in-order, Applies, First, Refused-by, Refusal-law, None-applies, First-refusal, Refused-exactly}
 use Rattle.plan.proofs.Bools.{and-left, and-right}
 
 module _ {A : Type 0} (refuse : ℕ → A) (granted : A) (apart : (m n : ℕ) → refuse m ≡ refuse n → m ≡ n) (not : (n : ℕ) → granted ≡ refuse n → ⊥) (n : ℕ) where
@@ -22,10 +22,6 @@ module _ {A : Type 0} (refuse : ℕ → A) (granted : A) (apart : (m n : ℕ) �
           → (first-refusal refuse rest granted ≡ refuse n → First rest n) → First (r ∷ rest) n
       go true w e′ later = inl (w, apart (r .number) n e′)
       go false w e′ later = inr (w, later e′)
-
-pub never-zero : Never-zero
-never-zero (r ∷ rest) e (inl f) = omega (arith, f .1, leb-true 1 (r .number) (and-eq-true-iff (leb 1 (r .number)) (from-one rest) .0 e .0))
-never-zero (r ∷ rest) e (inr f) = never-zero rest (and-eq-true-iff (leb 1 (r .number)) (from-one rest) .0 e .1) (f .1)
 
 module _ {A : Type 0} (refuse : ℕ → A) (g : A) where
   pub refuses : (rows : List Refusal) (n : ℕ) → First rows n → first-refusal refuse rows g ≡ refuse n

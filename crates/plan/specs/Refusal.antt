@@ -79,12 +79,3 @@ abbrev pub Refused-exactly : Type 1
 Refused-exactly = (A : Type 0) (refuse : ℕ → A) (rows : List Refusal) (granted : A)
     → ((m n : ℕ) → refuse m ≡ refuse n → m ≡ n) → ((n : ℕ) → granted ≡ refuse n → ⊥)
     → (n : ℕ) → (first-refusal refuse rows granted ≡ refuse n) ↔ First rows n
-
--- every number of the rows is 1 or more
-abbrev pub from-one : List Refusal → Bool
-from-one [] = true
-from-one (r ∷ rest) = leb 1 (r .number) && from-one rest
-
--- so 0 can stand for a grant
-abbrev pub Never-zero : Type 0
-Never-zero = (rows : List Refusal) → from-one rows ≡ true → First rows 0 → ⊥

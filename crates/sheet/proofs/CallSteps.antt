@@ -13,7 +13,6 @@ use Rattle.plan.specs.Plan.{stages, admitted}
 use Rattle.plan.specs.Counts.{counts, units}
 use Rattle.plan.specs.Stopping.{earliest}
 use Rattle.plan.specs.Refusal.{Refusal, First, None-applies}
-use Rattle.plan.proofs.Promise.{counting}
 use Rattle.plan.proofs.Refusals.{first-append, first-after, none-append}
 use Rattle.sheetmodel.specs.declared.reply.Done.{Done}
 use Rattle.sheetmodel.specs.declared.reply.Done.the-variants as done
@@ -23,16 +22,16 @@ use Rattle.sheet.specs.declared.survey.Found.{Found}
 use Rattle.sheet.specs.declared.locating.Located.the-variants.{Refused}
 use Rattle.sheet.specs.declared.granting.Grant.the-variants as grant
 use Rattle.plan.specs.Sample.{highest-class}
-use Rattle.sheetmodel.specs.Layout.{least-size, newest, plan-words, totals, closed-lots, most-closed}
+use Rattle.sheetmodel.specs.Layout.{largest, least-size, newest, plan-words, totals, closed-lots, most-closed}
 use Rattle.sheetmodel.specs.Contents.{Lot, history, find, records-of}
 use Rattle.sheetmodel.specs.Read.{undecided}
 use Rattle.sheetmodel.specs.Rows.{is-some, classes-in, answer-to, open-own, lot-rows, inspect-own, strike-own, close-own, record-rows, totals-rows}
 use Rattle.sheetmodel.specs.Calls.{Outcome, standing, lot, full, tally-full, sheet-rows, last-below, predecessor, new-record, open-lot, open-rows, with-lot, inspect, inspect-rows, with-inspection, strike, strike-rows, without-newest, close, close-rows, without-lot, look, look-rows, shown, tally, tally-rows}
-use Rattle.sheet.specs.Writes.{largest, In-words, Room, Striking, Closing, lot-at}
+use Rattle.sheet.specs.Writes.{In-words, Room, Striking, Closing, lot-at}
 use Rattle.sheet.specs.Survey.{found}
 use Rattle.sheet.specs.Locating.{located}
 use Rattle.sheet.specs.Granting.{grant-by}
-use Rattle.sheetmodel.proofs.Promise.{length-classes, refuses, grants}
+use Rattle.sheetmodel.proofs.ForSheet.{length-classes, units-of, refuses, grants}
 use Rattle.sheet.proofs.Sizes.{long-enough}
 use Rattle.sheet.proofs.Requires.{holds, inside, can-open, can-inspect, can-strike, lot-is, can-close, few-units}
 use Rattle.sheet.proofs.LocatedFacts.{Whole, With-lot, refused-first, behind, all-behind, absent, present}
@@ -98,7 +97,7 @@ module _ (n : ℕ) (w : List ℕ) (f : Found) (k : With-lot n w f) where
   counts-are = ap (λ (g : Found). g .counts) (k .is)
 
   units-are : units (f .counts) ≡ length (k .lot .inspections)
-  units-are = ap units counts-are ∙ counting .length-of (history (k .lot)) ∙ length-classes (k .lot .inspections)
+  units-are = ap units counts-are ∙ units-of (k .lot .inspections)
 
   pub long : least-size ≤ length w
   long = long-enough w (k .size)

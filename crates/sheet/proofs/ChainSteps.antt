@@ -25,7 +25,7 @@ use Rattle.sheetmodel.specs.Layout.{field, next}
 use Rattle.sheetmodel.specs.Contents.{Inspection, classes}
 use Rattle.sheetmodel.specs.Read.{guard, then, read-inspections}
 use Rattle.sheet.specs.Survey.{record-at, is-inspection, may-go-on, next-test, tested, chain-of, all-units, if-undecided, with-newer, with-older, newer-part, part-units}
-use Rattle.sheetmodel.proofs.Promise.{classes-cons, length-classes, sound-inspections}
+use Rattle.sheetmodel.proofs.ForSheet.{classes-cons, units-of, sound-inspections}
 
 -- a chain with one newer inspection of class x
 abbrev one-newer : ℕ → Chain → Chain
@@ -183,7 +183,7 @@ module _ (first : ℕ) (w : List ℕ) (lot : ℕ) where
           tested-one : (b : Bool) → cond b (Whole (counts (classes is))) Corrupt ≡ Whole c → units c ≡ n
           tested-one true g =
               let same : counts (classes is) ≡ c = cc in
-              sym (ap units same) ∙ counting .length-of (classes is) ∙ length-classes is ∙ sym (sound-inspections first w lot n at is e .1)
+              sym (ap units same) ∙ units-of is ∙ sym (sound-inspections first w lot n at is e .1)
           tested-one false g = absurd (let z : _≡_ {A = ℕ} 0 1 = cc in omega arith)
 
   -- ---- the newer inspections at once

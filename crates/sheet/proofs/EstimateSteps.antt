@@ -29,7 +29,7 @@ use Rattle.sheetmodel.specs.Estimate.{estimate-of, estimate-rows, estimate}
 use Rattle.sheet.specs.Estimating.{units-of-class, without-unit}
 use Rattle.sheet.specs.Writes.{In-words}
 use Rattle.sheet.specs.Locating.{located}
-use Rattle.sheetmodel.proofs.Promise.{classes-cons, length-classes, without-last-snoc, refuses, grants}
+use Rattle.sheetmodel.proofs.ForSheet.{classes-cons, length-classes, without-last-snoc, refuses, grants}
 use Rattle.sheet.proofs.Sizes.{long-enough}
 use Rattle.sheet.proofs.HeaderSteps.{few-stages}
 use Rattle.sheet.proofs.Requires.{holds, on-chain}

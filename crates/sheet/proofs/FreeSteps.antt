@@ -13,7 +13,7 @@ use Rattle.sheetmodel.specs.Layout.{word, field, next, first-free}
 use Rattle.sheetmodel.specs.Read.{guard, then, in-use, depth, read-free}
 use Rattle.sheetmodel.specs.Rows.{is-some}
 use Rattle.sheet.specs.Survey.{is-free, free-of}
-use Rattle.sheetmodel.proofs.Promise.{sound-free}
+use Rattle.sheetmodel.proofs.ForSheet.{sound-free}
 
 one-free : (at : ℕ) (o : Option (List ℕ)) → is-some (then o (λ js. some (at ∷ js))) ≡ is-some o
 one-free at none = refl

@@ -6,16 +6,16 @@ use mathlib.Core.Bool.{true}
 use mathlib.Core.Option.{Option, none, some, Option·getD}
 use mathlib.Core.List.{List, [], _∷_}
 use native.Mathlib.Omega.{arith}
-use lib.ListN.{length, set, length-set}
+use lib.ListN.{length}
 use borrow.Author.Tests.{ne-eqb}
-use Rattle.sheetmodel.specs.Layout.{word, field, next, put-record, next-unused, first-free, first-record}
+use Rattle.sheetmodel.specs.Layout.{word, field, next, next-unused, first-free, first-record}
 use Rattle.sheetmodel.specs.Contents.{Inspection}
 use Rattle.sheetmodel.specs.Holds.{Inspections}
 use Rattle.sheetmodel.specs.Read.{depth}
 use Rattle.sheetmodel.specs.Rows.{is-some}
 use Rattle.sheetmodel.specs.Calls.{free-record, free-inspections}
 use Rattle.sheet.specs.Writes.{In-words, Freeing, read-chain, chain}
-use Rattle.sheetmodel.proofs.Promise.{Same, same-trans, word-set, word-set-here, same-set, written, keep-inspections, sound-inspections}
+use Rattle.sheetmodel.proofs.ForSheet.{One-freed, one-freed, keep-inspections, sound-inspections}
 
 -- the depth by the first free record
 depth-at : (w : List ℕ) (j d : ℕ) → word w first-free ≡ j → j ≢ 0 → field w j 0 ≡ d → depth w ≡ d
@@ -25,34 +25,6 @@ depth-at w j d e h f = rw (e, ne-eqb j 0 h) f
 pub same-depth : (w v : List ℕ) → word v first-free ≡ word w first-free → field v (word w first-free) 0 ≡ field w (word w first-free) 0 → depth v ≡ depth w
 unfolding depth
 same-depth w v e f = rw (e, f)
-
--- v is w with record j freed
-record One-freed (w v : List ℕ) (j : ℕ) : Type 0 where
-  len : length v ≡ length w
-  unused : word v next-unused ≡ word w next-unused
-  front : word v first-free ≡ j
-  deep : depth v ≡ depth w + 1
-  same : (q : ℕ) → first-record ≤ q → q ≢ j → Same w v q
-
-module _ (w : List ℕ) (j : ℕ) (low : first-record ≤ j) (inside : In-words w j) where
-  -- by the words written to the record
-  freed-by : (k nxt third fourth : ℕ) → k ≡ depth w + 1 → One-freed w (set (put-record w j k nxt third fourth) first-free j) j
-  freed-by k nxt third fourth deep =
-      let u = put-record w j k nxt third fourth in
-      let r = written w j k nxt third fourth inside in
-      let lu = r .len in
-      let front : word (set u 2 j) 2 ≡ j = word-set-here u 2 j (omega arith) in
-      record {
-        len = length-set u 2 j ∙ lu;
-        unused = word-set u 2 0 j (omega arith) ∙ r .words 0 (omega arith);
-        front = front;
-        deep = depth-at (set u 2 j) j (depth w + 1) front (omega arith) (same-set u 2 j j (omega arith) .f0 ∙ r .f0 ∙ deep);
-        same = λ q h d. same-trans (r .same q d) (same-set u 2 q j (omega arith));
-      }
-
-  one-freed : One-freed w (free-record w j) j
-  unfolding free-record
-  one-freed = freed-by _ _ _ _ refl
 
 -- n inspections are left to free, from record `at` on; the words are then `goal`, and one record more can be freed
 pub record Left (goal w : List ℕ) (lot n at : ℕ) : Type 0 where
@@ -91,18 +63,19 @@ module _ {goal w : List ℕ} {lot n at : ℕ} (left : Left goal w lot n at) wher
           let v = free-record w at in
           let low : first-record ≤ at = omega (arith, x .low) in
           let f : One-freed w v at = one-freed w at low (left-in some-left) in
+          let unused = f .words next-unused (omega arith) (λ e. omega arith) in
           let z = left .can .sized in
           let hi = word w next-unused in
           record {
             inspections = is;
-            holds = keep-inspections first-record w v hi (word v next-unused) (omega (arith, f .unused)) lot is (next w (i .at)) (next w at) (ap (next w) here)
-                (λ q m. f .same q (m .low) (λ y. omega (arith, m .serial, x .serial, ap (λ (k : ℕ). field w k 3) (y ∙ here)))) (h .1);
+            holds = keep-inspections first-record w v hi (word v next-unused) (omega (arith, unused)) lot is (next w (i .at)) (next w at) (ap (next w) here)
+                (λ q m. f .same q (omega (arith, m .low)) (λ y. omega (arith, m .serial, x .serial, ap (λ (k : ℕ). field w k 3) (y ∙ here)))) (h .1);
             count = omega arith;
             same = g ∙ ap (λ (k : ℕ). free-inspections (free-record w k) is) (sym here);
             can = record {
-              sized = record { long = omega (arith, f .len, z .long); short = omega (arith, f .len, z .short); room = omega (arith, f .len, f .unused, z .room) };
+              sized = record { long = omega (arith, f .len, z .long); short = omega (arith, f .len, z .short); room = omega (arith, f .len, unused, z .room) };
               front = omega (arith, f .len, f .front, left-in some-left);
-              deep = omega (arith, f .deep, left .can .deep);
+              deep = omega (arith, depth-at v at (depth w + 1) (f .front) (λ e. omega arith) (f .f0), left .can .deep);
             };
           }
 

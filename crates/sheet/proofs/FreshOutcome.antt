@@ -8,7 +8,7 @@ use Rattle.plan.specs.Plan.{admitted}
 use Rattle.sheetmodel.specs.declared.reply.Done.the-variants as done
 use Rattle.sheetmodel.specs.Layout.{size-ok}
 use Rattle.sheetmodel.specs.Calls.{fresh, fresh-rows, fresh-words}
-use Rattle.sheetmodel.proofs.Promise.{refuses, grants}
+use Rattle.sheetmodel.proofs.ForSheet.{refuses, grants}
 
 module _ (p w : List ℕ) where
   pub wrong-size : size-ok w ≡ false → fresh p w ≡ record { reply = done.Refused 1; words = w }

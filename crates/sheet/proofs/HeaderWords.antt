@@ -12,7 +12,7 @@ use Rattle.plan.specs.Plan.{stages, admitted}
 use Rattle.plan.proofs.Promise.{shape}
 use Rattle.sheetmodel.specs.Layout.{least-size, greatest-size, header-size, plan-start, word, first-record}
 use Rattle.sheetmodel.specs.Calls.{fresh-words}
-use Rattle.sheetmodel.proofs.Promise.{same-length, zero-word}
+use Rattle.sheetmodel.proofs.ForSheet.{same-length, zero-word}
 
 -- the header's first i words after the stage count, and the old words from there on
 abbrev written-to : List ℕ → List ℕ → ℕ → List ℕ

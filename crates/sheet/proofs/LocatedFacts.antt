@@ -20,7 +20,7 @@ use Rattle.sheetmodel.specs.Rows.{lot-rows}
 use Rattle.sheetmodel.specs.Calls.{standing, sheet-rows, last-below}
 use Rattle.sheet.specs.Survey.{found, survey-of}
 use Rattle.sheet.specs.Locating.{found-on, located}
-use Rattle.sheetmodel.proofs.Promise.{some-value, some-lot}
+use Rattle.sheetmodel.proofs.ForSheet.{some-value, some-lot}
 use Rattle.sheet.proofs.Requires.{lot-after-header}
 
 -- what the first rows refuse, and what they let through

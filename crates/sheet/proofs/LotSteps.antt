@@ -23,7 +23,7 @@ use Rattle.sheetmodel.specs.Layout.{word, field, next, newest, next-unused}
 use Rattle.sheetmodel.specs.Contents.{Inspection, Lot, classes}
 use Rattle.sheetmodel.specs.Read.{guard, then, in-use, serial-at, read-inspections, read-lots, undecided-before}
 use Rattle.sheet.specs.Survey.{record-at, is-lot, tested, chain-of, with-lot-found, lots-survey}
-use Rattle.sheetmodel.proofs.Promise.{length-classes, fact, sound-inspections, is-history}
+use Rattle.sheetmodel.proofs.ForSheet.{length-classes, fact, sound-inspections, is-history}
 use Rattle.sheet.proofs.ChainSteps.{ended, not-ended, cut-here, whole-units}
 use Rattle.sheet.proofs.Tested.{same-test}
 

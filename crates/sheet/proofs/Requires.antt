@@ -14,16 +14,16 @@ use Rattle.plan.specs.Plan.{stages}
 use Rattle.plan.specs.Counts.{counts, units}
 use Rattle.plan.specs.Promise.{History}
 use Rattle.plan.proofs.Promise.{shape, promise, counting}
-use Rattle.sheetmodel.specs.Layout.{size-ok, word, newest, next-unused, first-lot, first-free, first-record, plan-words, closed-lots, most-closed}
+use Rattle.sheetmodel.specs.Layout.{largest, size-ok, word, newest, next-unused, first-lot, first-free, first-record, plan-words, closed-lots, most-closed}
 use Rattle.sheetmodel.specs.Contents.{Inspection, Lot, Contents, history, find, records-of}
 use Rattle.sheetmodel.specs.Holds.{Inspections, Free, All-undecided-before, Holds}
 use Rattle.sheetmodel.specs.Read.{read, serial-at}
 use Rattle.sheetmodel.specs.Rows.{is-some}
 use Rattle.sheetmodel.specs.Calls.{full, last-below, predecessor, lots-total, lot-answer}
 use Rattle.sheet.specs.Survey.{Sized}
-use Rattle.sheet.specs.Writes.{largest, In-words, Room, Freeing, Striking, Totals-fit, Closing, read-chain, lot-at}
+use Rattle.sheet.specs.Writes.{In-words, Room, Freeing, Striking, Totals-fit, Closing, read-chain, lot-at}
 use Rattle.sheet.proofs.Sizes.{long-enough, short-enough}
-use Rattle.sheetmodel.proofs.Promise.{reads, reads-inspections, serials, depths, records-of-parts, Prior, prior-header, took, is-history, undecided-from, Found, find-lot, within}
+use Rattle.sheetmodel.proofs.ForSheet.{reads, reads-inspections, serials, depths, records-of-parts, Prior, prior-header, took, Found, find-lot, within, found-history}
 
 -- the front of a free chain is 0 or a record in use
 record Front (hi at : ℕ) : Type 0 where
@@ -121,10 +121,8 @@ module _ (w : List ℕ) (s : Contents) (size : size-ok w ≡ true) (r : read w �
     -- it has no more units than a complete sample
     pub few-units : units (counts (history l)) ≤ 1000
     few-units =
-        let f = on-chain in
         let p = plan-words w in
-        let old : All-undecided-before (stages p) (l ∷ f .post) = rw (f .parts) at (undecided-from (stages p) n (s .lots) (holds .undecided-before)) in
-        let h : History (stages p) (history l) = is-history (stages p) first-record w (word w next-unused) (l .at) (newest w (l .at)) (l .inspections) (f .inspections) (old .0) in
+        let h = found-history first-record (omega arith) w s holds n l e in
         omega (arith, counting .length-of (history l), promise p (holds .plan) .no-longer (history l) h, shape p (holds .plan) .thousand-units)
 
     totals-fit : closed-lots w < most-closed → Totals-fit w (lot-answer w l) (counts (history l))

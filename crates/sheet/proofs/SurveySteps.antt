@@ -12,7 +12,6 @@ use lib.Dec.{eqb}
 use borrow.Author.Tests.{lt-ltb, le-ltb, eq-eqb, ne-eqb}
 use Rattle.plan.specs.Plan.{Stage, stages}
 use Rattle.plan.specs.Counts.{units, no-units, counts}
-use Rattle.plan.proofs.Promise.{counting}
 use Rattle.sheet.specs.declared.chain.FreeChain.{FreeChain}
 use Rattle.sheet.specs.declared.chain.FreeChain.the-variants as free
 use Rattle.sheet.specs.declared.survey.Found.{Found}
@@ -24,12 +23,9 @@ use Rattle.sheetmodel.specs.Holds.{Lots}
 use Rattle.sheetmodel.specs.Read.{guard, then, depth, read-lots, read-free, all-undecided-before, header-ok, contents-ok, read-from}
 use Rattle.sheetmodel.specs.Calls.{last-below}
 use Rattle.sheet.specs.Survey.{found-from, nothing-found, lots-survey, free-of, found, survey-of}
-use Rattle.sheetmodel.proofs.Promise.{length-classes, sound-lots, find-above}
+use Rattle.sheetmodel.proofs.ForSheet.{units-of, sound-lots, find-above}
 
 -- ---- what is found
-
-lot-units : (l : Lot) → units (counts (history l)) ≡ length (l .inspections)
-lot-units l = counting .length-of (history l) ∙ length-classes (l .inspections)
 
 -- with so many records used, and nothing else changed
 abbrev with-used : Found → ℕ → Found
@@ -40,7 +36,7 @@ module _ (first : ℕ) (w : List ℕ) (hi n : ℕ) where
   passed : (f : Found) (ls : List Lot) (above at : ℕ) → n ≤ above → Lots first w hi above ls at → found-from n f ls ≡ with-used f (f .used + records-of ls)
   passed f [] above at l h = ap (with-used f) (sym (add-zero (f .used)))
   passed f (m ∷ ls) above at l h =
-      let u = lot-units m in
+      let u = units-of (m .inspections) in
       let r : n < m .number = omega (arith, h .0 .rises) in
       let sum : f .used + (1 + units (counts (history m))) + records-of ls ≡ f .used + (1 + length (m .inspections) + records-of ls) = omega arith in
       rw (le-ltb (m .number) n (omega arith), ne-eqb n (m .number) (λ e. omega arith))
@@ -63,7 +59,7 @@ module _ (first : ℕ) (w : List ℕ) (hi n : ℕ) where
       (found-is (record { used = f .used + (1 + units (counts (history m))); before = m .at; at = f .at; counts = f .counts }) ls (m .number) _ (h .2))
     where
       sum : f .used + (1 + units (counts (history m))) + records-of ls ≡ f .used + (1 + length (m .inspections) + records-of ls)
-      sum = omega (arith, lot-units m)
+      sum = omega (arith, units-of (m .inspections))
 
       go : Dec (m .number < n) → Dec (n < m .number)
           → found-from n (record { used = f .used + (1 + units (counts (history m))); before = m .at; at = f .at; counts = f .counts }) ls

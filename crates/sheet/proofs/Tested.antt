@@ -20,7 +20,7 @@ use Rattle.plan.proofs.Promise.{promise}
 use Rattle.sheetmodel.specs.Contents.{Inspection, classes}
 use Rattle.sheetmodel.specs.Read.{undecided, undecided-before}
 use Rattle.sheet.specs.Survey.{next-test, tested}
-use Rattle.sheetmodel.proofs.Promise.{classes-cons, length-classes, goes-on, test}
+use Rattle.sheetmodel.proofs.ForSheet.{classes-cons, length-classes, goes-on, test}
 
 -- undecided before each is undecided where the walk tests
 pub tests-hold : (p : List Stage) (t : ℕ) (is : List Inspection) → undecided-before p is ≡ true → tested p t is ≡ true

@@ -10,7 +10,7 @@ use Rattle.plan.specs.declared.stage.Answer.{Answer}
 use Rattle.plan.specs.declared.stage.Answer.the-variants.{GoOn, Accept, Reject}
 use Rattle.sheetmodel.specs.Layout.{least-size, header-size, word, accepted-lots, rejected-lots}
 use Rattle.sheetmodel.specs.Calls.{add-to, lots-total, add-totals}
-use Rattle.sheetmodel.proofs.Promise.{Added, added, Totalled, totalled}
+use Rattle.sheetmodel.proofs.ForSheet.{Added, added, Totalled, totalled}
 
 pub lots-total-in : (a : Answer) → (accepted-lots ≤ lots-total a) × (lots-total a ≤ rejected-lots)
 lots-total-in GoOn = omega arith

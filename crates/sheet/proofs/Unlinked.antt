@@ -10,14 +10,13 @@ use lib.ListN.{length, length-set}
 use Rattle.plan.specs.declared.counts.Counts.{Counts}
 use Rattle.plan.specs.declared.stage.Answer.{Answer}
 use Rattle.plan.specs.Counts.{units}
-use Rattle.plan.proofs.Promise.{counting}
 use Rattle.sheetmodel.specs.Layout.{word, field, next, newest, put, next-unused, first-free, first-record}
 use Rattle.sheetmodel.specs.Contents.{history}
 use Rattle.sheetmodel.specs.Holds.{Inspections}
 use Rattle.sheetmodel.specs.Read.{serial-at, depth}
 use Rattle.sheetmodel.specs.Calls.{lots-total, add-totals, free-record, free-inspections, free-lot, without-lot}
 use Rattle.sheet.specs.Writes.{Freeing, Closing, read-chain, chain, lot-at}
-use Rattle.sheetmodel.proofs.Promise.{Same, same-trans, word-set, same-put, keep-inspections, length-classes, reads-inspections, sound-inspections, Totalled}
+use Rattle.sheetmodel.proofs.ForSheet.{Same, same-trans, word-set, same-put, keep-inspections, reads-inspections, sound-inspections, Totalled, units-of}
 use Rattle.sheet.proofs.FreedChain.{same-depth, is-read}
 use Rattle.sheet.proofs.TotalsKept.{lots-total-in, all-totalled}
 
@@ -63,7 +62,7 @@ module _ (w : List ℕ) (at before : ℕ) (answer : Answer) (c : Counts) (ready 
   long = length-set (add-totals w answer c) (4 * before + 1) (next w at) ∙ totals .len
 
   units-are : units c ≡ length (lot-at w at .inspections)
-  units-are = ap units (ready .counted) ∙ counting .length-of (history (lot-at w at)) ∙ length-classes (lot-at w at .inspections)
+  units-are = ap units (ready .counted) ∙ units-of (lot-at w at .inspections)
 
   -- the lot's inspections are read as before
   pub chain-kept : read-chain v at (units c) (newest w at) ≡ some (lot-at w at .inspections)

@@ -8,15 +8,12 @@ use lib.ListN.{length}
 use Rattle.plan.specs.declared.counts.Counts.{Counts}
 use Rattle.plan.specs.declared.stage.Answer.{Answer}
 use Rattle.plan.specs.Counts.{counts, units}
-use Rattle.sheetmodel.specs.Layout.{least-size, greatest-size, word, field, newest, first-free, first-record, good-units, marginal-units, bad-units}
+use Rattle.sheetmodel.specs.Layout.{largest, least-size, greatest-size, word, field, newest, first-free, first-record, good-units, marginal-units, bad-units}
 use Rattle.sheetmodel.specs.Contents.{Inspection, Lot, history}
 use Rattle.sheetmodel.specs.Read.{serial-at, depth, read-inspections}
 use Rattle.sheet.specs.Survey.{Sized}
 use Rattle.sheetmodel.specs.Rows.{is-some}
 use Rattle.sheetmodel.specs.Calls.{new-record, lots-total, lot-answer}
-
-abbrev pub largest : ℕ
-largest = 4294967295
 
 -- record j lies in the words
 abbrev pub In-words : List ℕ → ℕ → Type 0

@@ -10,9 +10,9 @@ use plan::Counts;
 ghost use mathlib.Core.Path.{_≡_};
 ghost use Prim.Native.Nat.{_+_, _≤_, _<_};
 ghost use lib.ListN.{length};
-ghost use Rattle.sheetmodel.specs.Layout.{least-size, word};
+ghost use Rattle.sheetmodel.specs.Layout.{largest, least-size, word};
 ghost use Rattle.sheetmodel.specs.Calls.{tally-full, add-to, lots-total, add-totals};
-ghost use Rattle.sheet.specs.Writes.{largest, Totals-fit};
+ghost use Rattle.sheet.specs.Writes.{Totals-fit};
 
 // The total that counts a lot closed with this answer. An undecided lot is never closed.
 fn lots_total(answer: Answer) -> usize

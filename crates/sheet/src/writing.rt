@@ -11,9 +11,9 @@ use plan::Answer;
 use plan::Counts;
 ghost use mathlib.Core.Path.{_≡_};
 ghost use Prim.Native.Nat.{_<_};
-ghost use Rattle.sheetmodel.specs.Layout.{newest};
+ghost use Rattle.sheetmodel.specs.Layout.{largest, newest};
 ghost use Rattle.sheetmodel.specs.Calls.{new-record, with-lot, with-inspection, without-newest, without-lot};
-ghost use Rattle.sheet.specs.Writes.{largest, In-words, Room, Striking, Closing, lot-at};
+ghost use Rattle.sheet.specs.Writes.{In-words, Room, Striking, Closing, lot-at};
 
 // A new lot after the one in record `before`; the header (0) is before all lots.
 pub fn add_lot(sheet: &mut [u32], number: u32, before: u32)

@@ -12,8 +12,9 @@ use borrow.Author.Tests.{ltb-true, ltb-false}
 use Rattle.plan.specs.declared.stage.Answer.{Answer}
 use Rattle.plan.specs.declared.stage.Answer.the-variants.{GoOn, Accept, Reject}
 use Rattle.plan.specs.Plan.{Stage}
-use Rattle.plan.specs.Counts.{counts}
+use Rattle.plan.specs.Counts.{counts, units}
 use Rattle.plan.specs.Stopping.{earliest}
+use Rattle.plan.proofs.Promise.{counting}
 use Rattle.sheetmodel.specs.Contents.{Inspection, Lot, classes}
 use Rattle.sheetmodel.specs.Holds.{Undecided-before, All-undecided-before}
 use Rattle.sheetmodel.specs.History.{without-last}
@@ -25,6 +26,10 @@ classes-cons i is = reverse-cons (i .class) (map (λ (k : Inspection). k .class)
 
 pub length-classes : (is : List Inspection) → length (classes is) ≡ length is
 length-classes is = length-reverse (map (λ (k : Inspection). k .class) is) ∙ length-map is (λ (k : Inspection). k .class)
+
+-- as many units as inspections
+pub units-of : (is : List Inspection) → units (counts (classes is)) ≡ length is
+units-of is = counting .length-of (classes is) ∙ length-classes is
 
 pub without-last-snoc : (xs : List ℕ) (c : ℕ) → without-last (xs ++ (c ∷ [])) ≡ xs
 without-last-snoc [] c = refl

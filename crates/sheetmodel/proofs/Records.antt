@@ -11,6 +11,7 @@ use borrow.Author.Tests.{leb-false, eq-eqb, ne-eqb}
 use Rattle.sheetmodel.specs.Layout.{least-size, word, field, put-record, records, free-tag, next-unused, first-lot, first-free, first-record}
 use Rattle.sheetmodel.specs.Contents.{Inspection}
 use Rattle.sheetmodel.specs.Holds.{Inspections, Free}
+use Rattle.sheetmodel.specs.Read.{depth}
 use Rattle.sheetmodel.specs.Calls.{full, new-record, take-record, free-record, free-inspections}
 use Rattle.sheetmodel.proofs.Words.{Same, same-refl, same-trans, word-set, word-set-here, same-set, Written, written}
 use Rattle.sheetmodel.proofs.Chains.{Is-inspection, Is-free, Is-lot, keep-inspections, keep-free}
@@ -108,6 +109,41 @@ module _ {start : ℕ} (base : first-record ≤ start) {w js v : List ℕ} {j : 
   pub not-free : (q : ℕ) → Is-free start w (word w next-unused) (length (t .left)) q → q ≢ j
   not-free q i e = omega (arith, i .depth, ap (λ (k : ℕ). field w k 0) e, t .spare-0 (omega (arith, i .high)))
 
+-- v is w with record j freed
+pub record One-freed (w v : List ℕ) (j : ℕ) : Type 0 where
+  pub len : length v ≡ length w
+  pub words : (i : ℕ) → i < 4 * j → i ≢ first-free → word v i ≡ word w i
+  pub front : word v first-free ≡ j
+  pub f0 : field v j 0 ≡ depth w + 1
+  pub f1 : field v j 1 ≡ word w first-free
+  pub f2 : field v j 2 ≡ 0
+  pub f3 : field v j 3 ≡ free-tag
+  pub same : (q : ℕ) → 1 ≤ q → q ≢ j → Same w v q
+
+module _ (w : List ℕ) (j : ℕ) (low : first-record ≤ j) (room : 4 * j + 3 < length w) where
+  -- by the words written
+  one-freed-by : (first second third fourth front : ℕ) → first ≡ depth w + 1 → second ≡ word w first-free → third ≡ 0 → fourth ≡ free-tag → front ≡ j →
+      One-freed w (set (put-record w j first second third fourth) first-free front) j
+  one-freed-by first second third fourth front deep to blank tag here =
+      let u = put-record w j first second third fourth in
+      let r = written w j first second third fourth room in
+      let lu = r .len in
+      let s = same-set u first-free j front (omega arith) in
+      record {
+        len = length-set u first-free front ∙ lu;
+        words = λ i h d. word-set u first-free i front d ∙ r .words i h;
+        front = word-set-here u first-free front (omega arith) ∙ here;
+        f0 = s .f0 ∙ r .f0 ∙ deep;
+        f1 = s .f1 ∙ r .f1 ∙ to;
+        f2 = s .f2 ∙ r .f2 ∙ blank;
+        f3 = s .f3 ∙ r .f3 ∙ tag;
+        same = λ q h d. same-trans (r .same q d) (same-set u first-free q front (omega arith));
+      }
+
+  pub one-freed : One-freed w (free-record w j) j
+  unfolding free-record
+  one-freed = one-freed-by _ _ _ _ _ refl refl refl refl refl
+
 -- j is freed
 pub record Freed (start : ℕ) (w : List ℕ) (hi : ℕ) (js : List ℕ) (j : ℕ) (v : List ℕ) : Type 0 where
   pub kept : Kept start w v
@@ -118,37 +154,21 @@ pub record Freed (start : ℕ) (w : List ℕ) (hi : ℕ) (js : List ℕ) (j : �
 
 module _ (start : ℕ) (base : first-record ≤ start) (w : List ℕ) (hi : ℕ) (js : List ℕ) (j : ℕ) (low : start ≤ j) (high : j < hi) (room : 4 * j + 3 < length w)
     (not : ¬ Is-free start w hi (length js) j) (c : Free start w hi js (word w first-free)) where
-  -- by the words written
-  freed-by : (first second third fourth front : ℕ) → first ≡ suc (length js) → second ≡ word w first-free → third ≡ 0 → fourth ≡ free-tag → front ≡ j →
-      Freed start w hi js j (set (put-record w j first second third fourth) first-free front)
-  freed-by first second third fourth front deep to blank tag here =
-      let u = put-record w j first second third fourth in
-      let v = set u first-free front in
-      let r = written w j first second third fourth room in
-      let lu = r .len in
-      let s = same-set u first-free j front (omega arith) in
+  pub freed : Freed start w hi js j (free-record w j)
+  freed =
+      let v = free-record w j in
+      let o = one-freed w j (omega arith) room in
       record {
-        kept = kept-trans (kept-written low r) (kept-set start u first-free front (λ h. absurd (omega arith)));
-        next = word-set u first-free next-unused front (omega arith) ∙ r .words next-unused (omega arith);
-        first = word-set u first-free first-lot front (omega arith) ∙ r .words first-lot (omega arith);
-        same = λ q h d. same-trans (r .same q d) (same-set u first-free q front (omega arith));
+        kept = record { len = o .len; words = λ i a b. o .words i (omega arith) (λ e. omega arith) };
+        next = o .words next-unused (omega arith) (λ e. omega arith);
+        first = o .words first-lot (omega arith) (λ e. omega arith);
+        same = λ q h d. o .same q (omega arith) d;
         chain = (
-          record {
-            here = word-set-here u first-free front (omega arith) ∙ here;
-            low = low;
-            high = high;
-            depth = s .f0 ∙ r .f0 ∙ deep;
-            blank = s .f2 ∙ r .f2 ∙ blank;
-            tag = s .f3 ∙ r .f3 ∙ tag;
-          },
-          keep-free start w v hi hi (omega arith) js (word w first-free) (field v j 1) (s .f1 ∙ r .f1 ∙ to)
-              (λ q i. same-trans (r .same q (λ e. not (subst (Is-free start w hi (length js)) e i))) (same-set u first-free q front (omega (arith, i .low)))) c,
+          record { here = o .front; low = low; high = high; depth = omega (arith, o .f0, depths start (omega arith) w hi js c); blank = o .f2; tag = o .f3 },
+          keep-free start w v hi hi (omega arith) js (word w first-free) (field v j 1) (o .f1)
+              (λ q i. o .same q (omega (arith, i .low)) (λ e. not (subst (Is-free start w hi (length js)) e i))) c,
         );
       }
-
-  pub freed : Freed start w hi js j (free-record w j)
-  unfolding free-record
-  freed = freed-by _ _ _ _ _ (omega (arith, depths start (omega arith) w hi js c)) refl refl refl refl
 
 -- the inspections of a lot are freed, the newest first
 abbrev pub push : List Inspection → List ℕ → List ℕ

@@ -15,6 +15,10 @@ greatest-size = 65536
 abbrev pub size-ok : List ℕ → Bool
 size-ok w = leb least-size (length w) && leb (length w) greatest-size
 
+-- the largest number that a word has
+abbrev pub largest : ℕ
+largest = 4294967295
+
 abbrev pub word : List ℕ → ℕ → ℕ
 word w i = getD w i 0
 
@@ -111,7 +115,7 @@ unfoldable pub put-record : List ℕ → ℕ → ℕ → ℕ → ℕ → ℕ →
 put-record w j a b c d = put (put (put (put w j 0 a) j 1 b) j 2 c) j 3 d
 
 abbrev pub free-tag : ℕ
-free-tag = 4294967295
+free-tag = largest
 
 abbrev pub most-closed : ℕ
 most-closed = 4000000

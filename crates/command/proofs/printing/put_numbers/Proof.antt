@@ -3,7 +3,7 @@ use Prim.Native.Nat.{_-_, _≤_}
 use native.Mathlib.Omega.{arith}
 use lib.ListN.{length, length-set, getD}
 use borrow.Author.Needs.{needs}
-use Rattle.command.specs.Decimal.{largest}
+use Rattle.sheetmodel.specs.Layout.{largest}
 use Rattle.command.proofs.Writing.{Spaced, none-spaced, same, all-spaced, room, next-spaced}
 use Rattle.command.proofs.printing.put_numbers.Statement.{statement}
 use Rattle.command.proofs.printing.put_numbers.Tie as tie
