@@ -6,8 +6,9 @@ use mathlib.Core.Path.{_≡_, refl, ap, sym, _∙_}
 use mathlib.Core.Option.{Option, none, some}
 use mathlib.Core.List.{List, [], _∷_, _++_, append-assoc, append-nil}
 use lib.ListN.{length, take, drop, getD, set, length-append, length-set, length-drop, drop-of-length-le}
-use lib.Seq.{drop-cons, drop-drop, take-suc-set, length-take-le}
+use lib.Seq.{drop-drop, take-suc-set, length-take-le}
 use borrow.Author.Tests.{le-leb, lt-leb}
+use Rattle.plan.proofs.Lists.{drop-next}
 use Rattle.command.specs.declared.arguments.Count.{Count}
 use Rattle.command.specs.declared.arguments.Count.the-variants as count
 use Rattle.command.specs.declared.decimal.Number.the-variants as number
@@ -35,7 +36,7 @@ module _ (line : List ℕ) (at : ℕ) (h : at < length line) where
   one-field : left line at ≡ and-then (number (take here (drop (at + 1) line))) (left line (at + 1 + here))
   unfolding numbers
   one-field =
-      ap (λ (s : List ℕ). numbers (fields-after s)) (drop-cons line at 0 h ∙ ap (λ (k : ℕ). getD line at 0 ∷ drop k line) (sym (add-one at)))
+      ap (λ (s : List ℕ). numbers (fields-after s)) (drop-next line at h)
       ∙ ap numbers (first-field (drop (at + 1) line))
       ∙ ap (λ (s : List ℕ). and-then (number (take here (drop (at + 1) line))) (numbers (fields-after s))) (drop-drop here (at + 1) line)
 

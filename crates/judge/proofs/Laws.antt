@@ -25,7 +25,7 @@ use Rattle.plan.specs.Promise.{earliest-rule, staged-rule, One-stage}
 use Rattle.plan.proofs.Answers.{accept-stops, reject-stops}
 use Rattle.plan.proofs.Promise.{shape, one-stage, promise, counting, ways}
 use Rattle.plan.proofs.Sample.{classing}
-use Rattle.plan.proofs.Refusals.{first-refusals, refusal-law}
+use Rattle.plan.proofs.Refusal.{first-refusals, refusal-law}
 use Rattle.judge.specs.declared.stop.Stop.{Stop}
 use Rattle.judge.specs.declared.list.Judged.{Judged}
 use Rattle.judge.specs.declared.list.Judged.the-variants.{Refused, Stops as Stopped-list}

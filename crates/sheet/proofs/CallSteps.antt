@@ -13,7 +13,7 @@ use Rattle.plan.specs.Plan.{stages, admitted}
 use Rattle.plan.specs.Counts.{counts, units}
 use Rattle.plan.specs.Stopping.{earliest}
 use Rattle.plan.specs.Refusal.{Refusal, First, None-applies}
-use Rattle.plan.proofs.Refusals.{first-append, first-after, none-append}
+use Rattle.plan.proofs.Refusal.{first-append, first-after, none-append}
 use Rattle.sheetmodel.specs.declared.reply.Done.{Done}
 use Rattle.sheetmodel.specs.declared.reply.Done.the-variants as done
 use Rattle.sheetmodel.specs.declared.reply.Looked.the-variants as looked

@@ -5,7 +5,7 @@ use mathlib.Core.Logic.{_⊎_, inl, inr}
 use mathlib.Core.List.{List}
 use native.Mathlib.Omega.{arith}
 use Rattle.plan.specs.Refusal.{Refusal, First, None-applies}
-use Rattle.plan.proofs.Refusals.{refused-exactly, first-refusals}
+use Rattle.plan.proofs.Refusal.{refused-exactly, first-refusals}
 use Rattle.sheet.specs.declared.granting.Grant.{Grant}
 use Rattle.sheet.specs.declared.granting.Grant.the-variants.{Refused, Record}
 use Rattle.sheet.specs.Granting.{grant-by}

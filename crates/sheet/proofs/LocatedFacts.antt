@@ -8,7 +8,7 @@ use mathlib.Core.List.{List, []}
 use native.Mathlib.Omega.{arith}
 use borrow.Author.Tests.{not-false}
 use Rattle.plan.specs.Refusal.{Refusal, First, None-applies}
-use Rattle.plan.proofs.Refusals.{refused-exactly, first-refusals, first-append}
+use Rattle.plan.proofs.Refusal.{refused-exactly, first-refusals, first-append}
 use Rattle.sheet.specs.declared.survey.Found.{Found}
 use Rattle.sheet.specs.declared.survey.Surveyed.the-variants.{Corrupt, Intact}
 use Rattle.sheet.specs.declared.locating.Located.{Located}

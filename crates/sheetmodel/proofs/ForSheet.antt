@@ -2,7 +2,7 @@
 pub use Rattle.sheetmodel.proofs.Words.{Same, same-put, same-set, same-trans, word-set, word-set-here, written}
 pub use Rattle.sheetmodel.proofs.Chains.{keep-inspections}
 pub use Rattle.sheetmodel.proofs.HistoryLaws.{classes-cons, fact, goes-on, length-classes, test, units-of, without-last-snoc}
-pub use Rattle.sheetmodel.proofs.Reading.{depths, reads, reads-inspections, serials, sound-free, sound-inspections, sound-lots}
+pub use Rattle.sheetmodel.proofs.Read.{depths, reads, reads-inspections, serials, sound-free, sound-inspections, sound-lots}
 pub use Rattle.sheetmodel.proofs.Lots.{Prior, find-above, prior-header, records-of-parts}
 pub use Rattle.sheetmodel.proofs.Records.{One-freed, one-freed, took}
 pub use Rattle.sheetmodel.proofs.Outcomes.{refuses, grants}

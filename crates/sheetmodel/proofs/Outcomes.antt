@@ -4,7 +4,7 @@ use mathlib.Core.Path.{_≡_, sym, ap, subst, _∙_}
 use mathlib.Core.Logic.{_⊎_, inl, inr}
 use mathlib.Core.List.{List}
 use Rattle.plan.specs.Refusal.{Refusal, first-refusal, First, None-applies}
-use Rattle.plan.proofs.Refusals.{first-refusals}
+use Rattle.plan.proofs.Refusal.{first-refusals}
 use Rattle.sheetmodel.specs.Calls.{Outcome, outcome}
 
 module _ {R : Type 0} (refused : ℕ → R) (w : List ℕ) (reply : R) (words : List ℕ) where

@@ -15,7 +15,7 @@ use Rattle.sheetmodel.specs.Read.{depth}
 use Rattle.sheetmodel.specs.Calls.{full, new-record, take-record, free-record, free-inspections}
 use Rattle.sheetmodel.proofs.Words.{Same, same-refl, same-trans, word-set, word-set-here, same-set, Written, written}
 use Rattle.sheetmodel.proofs.Chains.{Is-inspection, Is-free, Is-lot, keep-inspections, keep-free}
-use Rattle.sheetmodel.proofs.Reading.{depths}
+use Rattle.sheetmodel.proofs.Read.{depths}
 
 -- the words of the header past the third stay as they were
 pub record Kept (start : ℕ) (w v : List ℕ) : Type 0 where

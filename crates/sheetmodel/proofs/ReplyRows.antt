@@ -8,7 +8,7 @@ use mathlib.Core.List.{List, []}
 use native.Mathlib.Omega.{arith}
 use Rattle.plan.specs.Reply.{refused}
 use Rattle.plan.specs.Refusal.{Refusal, first-refusal}
-use Rattle.plan.proofs.Refusals.{first-refusals}
+use Rattle.plan.proofs.Refusal.{first-refusals}
 use Rattle.plan.proofs.Promise.{counting}
 use Rattle.sheetmodel.specs.declared.reply.Done.the-variants as done
 use Rattle.sheetmodel.specs.declared.reply.Estimated.the-variants as estimated
@@ -24,7 +24,7 @@ use Rattle.sheetmodel.specs.Estimate.{estimate-rows, estimate}
 use Rattle.sheetmodel.specs.History.{Call, opening, inspecting, striking, closing, looking, call, Histories}
 use Rattle.sheetmodel.specs.Start.{Intact}
 use Rattle.sheetmodel.specs.Replies.{lot-of, reply-by, estimate-by, reply-on, estimate-on, By-rows}
-use Rattle.sheetmodel.proofs.Reading.{reads}
+use Rattle.sheetmodel.proofs.Read.{reads}
 use Rattle.sheetmodel.proofs.Outcomes.{reply-by-rows}
 use Rattle.sheetmodel.proofs.Invariant.{Inv, size-is}
 

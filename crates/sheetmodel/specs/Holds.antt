@@ -1,6 +1,6 @@
 -- These words hold these contents: document 01's paragraph "Torn means", clause by clause. `start` is the first record after
 -- the header and `hi` the next never used, so an index on a chain is from start to hi - 1. Apart from the reader (Read.antt),
--- which is proved to find exactly this (proofs/Reading.antt).
+-- which is proved to find exactly this (proofs/Read.antt).
 use Prim.Native.Nat.{ℕ, suc, _+_, _*_, _≤_, _<_}
 use mathlib.Core.Path.{_≡_}
 use mathlib.Core.Bool.{true}

@@ -109,6 +109,6 @@ read-from start w =
 abbrev pub read : List ℕ → Option Contents
 read w = read-from first-record w
 
--- the reader finds exactly what the words hold, from any start but 0, which ends a chain (proofs/Reading.antt)
+-- the reader finds exactly what the words hold, from any start but 0, which ends a chain (proofs/Read.antt)
 abbrev pub Reads-exactly : Type 0
 Reads-exactly = (start : ℕ) → 1 ≤ start → (w : List ℕ) (s : Contents) → (read-from start w ≡ some s) ↔ Holds start w s

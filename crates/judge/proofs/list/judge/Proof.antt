@@ -13,7 +13,7 @@ use Rattle.plan.specs.Plan.{admitted}
 use Rattle.plan.specs.Counts.{no-units}
 use Rattle.plan.specs.Sample.{are-classes}
 use Rattle.plan.proofs.Promise.{shape}
-use Rattle.plan.proofs.Refusals.{first-refusals}
+use Rattle.plan.proofs.Refusal.{first-refusals}
 use Rattle.judge.specs.declared.list.Judged.the-variants.{Stops, Refused}
 use Rattle.judge.specs.Judge.{event-of, refusals, judgement, judged}
 use Rattle.judge.proofs.Along.{stop-within}

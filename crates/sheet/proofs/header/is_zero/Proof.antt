@@ -1,13 +1,12 @@
 -- `sheet::is_zero` meets its contract. The loop's invariant: the words from i on decide. Assumes nothing.
 use Prim.Native.Nat.{ℕ, _+_, _-_, _≤_, _<_}
-use mathlib.Core.Path.{_≡_, ap, sym, _∙_}
+use mathlib.Core.Path.{_≡_, sym, ap, _∙_}
 use mathlib.Core.Bool.{false}
-use mathlib.Core.List.{List, _∷_}
-use native.Mathlib.Numerals.{add-one}
+use mathlib.Core.List.{List}
 use lib.ListN.{length, getD, drop, drop-of-length-le}
-use lib.Seq.{drop-cons}
 use borrow.Author.Needs.{needs}
 use borrow.Author.Tests.{eq-eqb, ne-eqb}
+use Rattle.plan.proofs.Lists.{drop-next}
 use Rattle.sheetmodel.specs.Read.{all-zero}
 use Rattle.sheet.proofs.header.is_zero.Statement.{statement}
 use Rattle.sheet.proofs.header.is_zero.Tie as tie
@@ -18,14 +17,11 @@ Inv-loop words i₀ i = (i ≤ length words) × (all-zero words ≡ all-zero (dr
 abbrev μ-loop : tie.MeasureT-loop
 μ-loop words i₀ i = length words - i
 
-next : (xs : List ℕ) (i : ℕ) → i < length xs → drop i xs ≡ getD xs i 0 ∷ drop (i + 1) xs
-next xs i h = drop-cons xs i 0 h ∙ ap (λ (j : ℕ). getD xs i 0 ∷ drop j xs) (sym (add-one i))
-
 zero-fails : (xs : List ℕ) (i : ℕ) → i < length xs → (getD xs i 0 ≡ 0 → ⊥) → all-zero (drop i xs) ≡ false
-zero-fails xs i h n = rw (next xs i h, ne-eqb _ _ n)
+zero-fails xs i h n = rw (drop-next xs i h, ne-eqb _ _ n)
 
 zero-holds : (xs : List ℕ) (i : ℕ) → i < length xs → getD xs i 0 ≡ 0 → all-zero (drop i xs) ≡ all-zero (drop (i + 1) xs)
-zero-holds xs i h e = rw (next xs i h, eq-eqb _ _ e)
+zero-holds xs i h e = rw (drop-next xs i h, eq-eqb _ _ e)
 
 returns : tie.Need-returns Inv-loop μ-loop
 returns c =
