@@ -9,7 +9,7 @@ use lib.ListN.{length, take, drop, length-take, length-drop}
 use lib.Seq.{drop-drop}
 use Rattle.plan.specs.Plan.{admitted}
 use Rattle.plan.proofs.Promise.{shape}
-use Rattle.sheetmodel.specs.Layout.{least-size, word, stage-count, plan-start, plan-room, plan-words, unused-stages}
+use Rattle.sheetmodel.specs.Layout.{least-size, word, stage-count, plan-start, plan-room, accepted-lots, plan-words, unused-stages}
 
 take-nil : (n : ℕ) → take {A = ℕ} n [] ≡ []
 take-nil zero = refl
@@ -37,12 +37,12 @@ module _ (w : List ℕ) (low : least-size ≤ length w) where
   few-stages e = elim (decLt 7 (word w stage-count)) [ yes l ↦ absurd (true≢false (sym e ∙ too-many l)) | no l ↦ omega arith ]
 
   -- the parts of the sheet that the code hands on: the plan, and the unused stages after it
-  pub plan-part : (end : ℕ) → end ≡ 4 + 5 * word w stage-count → take (end - 4) (drop 4 w) ≡ plan-words w
-  plan-part end e = let n : end - 4 ≡ 5 * word w stage-count = omega arith in rw n
+  pub plan-part : (end : ℕ) → end ≡ plan-start + 5 * word w stage-count → take (end - plan-start) (drop plan-start w) ≡ plan-words w
+  plan-part end e = let n : end - plan-start ≡ 5 * word w stage-count = omega arith in rw n
 
-  pub unused-part : (end : ℕ) → end ≡ 4 + 5 * word w stage-count → take (39 - end) (drop end w) ≡ unused-stages w
+  pub unused-part : (end : ℕ) → end ≡ plan-start + 5 * word w stage-count → take (accepted-lots - end) (drop end w) ≡ unused-stages w
   unused-part end e =
       let k : ℕ = 5 * word w stage-count in
-      let m : 39 - end ≡ plan-room - k = omega arith in
+      let m : accepted-lots - end ≡ plan-room - k = omega arith in
       let n : end ≡ plan-start + k = omega arith in
       rw (m, n) (sym (drop-take k plan-room (drop plan-start w) ∙ ap (take (plan-room - k)) (drop-drop k plan-start w)))

@@ -1,4 +1,4 @@
--- A record in use lies within the sheet. Assumes nothing.
+-- The words of a record; a record in use lies within the sheet. Assumes nothing.
 use Rattle.plan.proofs.Bools.{and-left, and-right}
 use Prim.Native.Nat.{ℕ, _+_, _*_, _≤_, _<_}
 use mathlib.Core.Path.{_≡_}
@@ -11,7 +11,18 @@ use borrow.Author.Tests.{leb-true, ltb-true}
 use Rattle.plan.specs.Sample.{highest-class}
 use Rattle.sheetmodel.specs.Layout.{word, field, next-unused}
 use Rattle.sheetmodel.specs.Read.{in-use}
+use Rattle.sheet.specs.declared.record.Record.{Record}
 use Rattle.sheet.specs.Survey.{Sized, is-inspection, is-free, is-lot}
+
+-- the words of a record, as functions
+abbrev pub value : Record → ℕ
+value r = r .value
+
+abbrev pub link : Record → ℕ
+link r = r .link
+
+abbrev pub tag : Record → ℕ
+tag r = r .tag
 
 pub record-within : (first : ℕ) (w : List ℕ) (at : ℕ) → Sized w → in-use first w at ≡ true → 4 * at + 3 < length w
 record-within first w at s e = omega (arith, s .room, ltb-true at (word w next-unused) (and-right (leb first at) (ltb at (word w next-unused)) e))

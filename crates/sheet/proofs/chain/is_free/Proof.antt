@@ -2,8 +2,7 @@
 use borrow.Author.Needs.{needs}
 use borrow.Author.Tests.{eq-eqb, ne-eqb, not-true, not-false}
 use mathlib.Core.Path.{ap, sym, _∙_}
-use Rattle.sheet.specs.declared.record.Record.{Record}
-use Rattle.sheet.proofs.Used.{record-within}
+use Rattle.sheet.proofs.Used.{record-within, value, link, tag}
 use Rattle.sheet.proofs.chain.is_free.Statement.{statement}
 use Rattle.sheet.proofs.chain.is_free.Tie as tie
 
@@ -16,13 +15,31 @@ record-at-requires c κs =
     (record-within (s .args .first) (s .args .sheet .now) (s .args .at) (s .pre) (sym (c .before .is-used .ensures) ∙ not-false _ (c .if1 .left)), s .pre .short)
 
 returns-2 : tie.Need-returns-2
-returns-2 c = rw (sym (c .before .before .before .before .is-used .ensures) ∙ not-false _ (c .before .before .before .if1 .left), ne-eqb _ _ (rw (ap (λ (r : Record). r .value) (c .before .before .record-at .ensures)) at (c .if2 .taken)))
+returns-2 c =
+    let k = c .before .before in
+    rw (
+      sym (k .before .before .is-used .ensures) ∙ not-false _ (k .before .if1 .left),
+      ne-eqb _ _ (rw (ap value (k .record-at .ensures)) at (c .if2 .taken)),
+    )
 
 returns-3 : tie.Need-returns-3
-returns-3 c = rw (sym (c .before .before .before .before .before .before .is-used .ensures) ∙ not-false _ (c .before .before .before .before .before .if1 .left), eq-eqb _ _ (rw (ap (λ (r : Record). r .value) (c .before .before .before .before .record-at .ensures)) at (c .before .before .if2 .left)), ne-eqb _ _ (rw (ap (λ (r : Record). r .link) (c .before .before .before .before .record-at .ensures)) at (c .if3 .taken)))
+returns-3 c =
+    let k = c .before .before .before .before in
+    rw (
+      sym (k .before .before .is-used .ensures) ∙ not-false _ (k .before .if1 .left),
+      eq-eqb _ _ (rw (ap value (k .record-at .ensures)) at (c .before .before .if2 .left)),
+      ne-eqb _ _ (rw (ap link (k .record-at .ensures)) at (c .if3 .taken)),
+    )
 
 returns-4 : tie.Need-returns-4
-returns-4 c = rw (sym (c .before .before .before .before .before .before .before .is-used .ensures) ∙ not-false _ (c .before .before .before .before .before .before .if1 .left), eq-eqb _ _ (rw (ap (λ (r : Record). r .value) (c .before .before .before .before .before .record-at .ensures)) at (c .before .before .before .if2 .left)), eq-eqb _ _ (rw (ap (λ (r : Record). r .link) (c .before .before .before .before .before .record-at .ensures)) at (c .before .if3 .left)), ap (λ (r : Record). r .tag) (c .before .before .before .before .before .record-at .ensures))
+returns-4 c =
+    let k = c .before .before .before .before .before in
+    rw (
+      sym (k .before .before .is-used .ensures) ∙ not-false _ (k .before .if1 .left),
+      eq-eqb _ _ (rw (ap value (k .record-at .ensures)) at (c .before .before .before .if2 .left)),
+      eq-eqb _ _ (rw (ap link (k .record-at .ensures)) at (c .before .if3 .left)),
+      ap tag (k .record-at .ensures),
+    )
 
 pub is-free-spec : {M : Type 1} → statement M
 is-free-spec =

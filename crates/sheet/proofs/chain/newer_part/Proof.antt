@@ -7,9 +7,8 @@ use borrow.Author.Needs.{needs}
 use borrow.Author.Tests.{not-true, not-false}
 use Rattle.plan.specs.Counts.{units, no-units}
 use Rattle.plan.proofs.Promise.{counting}
-use Rattle.sheet.specs.declared.record.Record.{Record}
 use Rattle.sheet.specs.Survey.{newer-part}
-use Rattle.sheet.proofs.Used.{inspection-within, inspection-class}
+use Rattle.sheet.proofs.Used.{value, inspection-within, inspection-class}
 use Rattle.sheet.proofs.ChainSteps.{newer-cut, newer-more, newer-done}
 use Rattle.sheet.proofs.chain.newer_part.Statement.{statement}
 use Rattle.sheet.proofs.chain.newer_part.Tie as tie
@@ -41,7 +40,7 @@ with-unit-requires c κs =
     let a = c .before .before .before .before .before .before .before .args in
     let l = c .before .before .before .before .loop in
     let class = inspection-class (a .first) (a .sheet .now) (a .lot) (l .left) (l .next) (sym (c .before .before .is-inspection .ensures) ∙ not-false _ (c .before .if1 .left)) in
-    (omega (arith, ap (λ (r : Record). r .value) (c .record-at .ensures)), omega arith)
+    (omega (arith, ap value (c .record-at .ensures)), omega arith)
 
 loop-again : tie.Need-loop-again Inv-loop μ-loop
 loop-again c =

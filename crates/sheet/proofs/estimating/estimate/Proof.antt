@@ -1,9 +1,15 @@
 -- `sheet::estimate` meets its contract: the tests are in the order of the table. Assumes nothing.
+use Prim.Native.Nat.{ℕ}
 use mathlib.Core.Path.{_≡_, refl, sym, ap, _∙_}
+use mathlib.Core.Bool.{false}
+use mathlib.Core.List.{List}
 use native.Mathlib.Omega.{arith}
 use borrow.Author.Needs.{needs}
-use Rattle.sheetmodel.specs.Layout.{field, newest}
+use Rattle.plan.specs.Plan.{stages}
+use Rattle.plan.specs.Stopping.{earliest}
+use Rattle.sheetmodel.specs.Layout.{field, newest, plan-words}
 use Rattle.sheetmodel.specs.Read.{undecided}
+use Rattle.sheet.specs.declared.survey.Found.{Found}
 use Rattle.sheet.specs.Estimating.{without-unit}
 use Rattle.sheet.proofs.Sizes.{short-enough}
 use Rattle.sheet.proofs.LocatedFacts.{With-lot, with-lot}
@@ -12,66 +18,70 @@ use Rattle.sheet.proofs.EstimateSteps.{estimate-refused, estimate-undec
 use Rattle.sheet.proofs.estimating.estimate.Statement.{statement}
 use Rattle.sheet.proofs.estimating.estimate.Tie as tie
 
--- what is known once the lot is found
-facts : (c : tie.After-known-told2) → let x = c .before .before .before .before .before in With-lot (x .args .lot) (x .args .sheet .now) (c .before .f .given .0 .0)
-facts c =
-    let x = c .before .before .before .before .before in
-    let f = c .before .f .given in
-    with-lot (x .args .lot) (x .args .sheet .now) (f .0 .0) (sym (c .before .before .before .locate-lot .ensures) ∙ f .1)
+-- the arguments, and what is found, by the place where the lot is found
+abbrev Place : Type 0
+Place = tie.After-known-told2
+
+abbrev lot-of : Place → ℕ
+lot-of k = k .before .before .before .before .before .args .lot
+
+abbrev words : Place → List ℕ
+words k = k .before .before .before .before .before .args .sheet .now
+
+abbrev found : Place → Found
+found k = k .before .f .given .0 .0
+
+-- and what is known there
+facts : (k : Place) → With-lot (lot-of k) (words k) (found k)
+facts k = with-lot (lot-of k) (words k) (found k) (sym (k .before .before .before .locate-lot .ensures) ∙ k .before .f .given .1)
+
+-- and once it is decided
+decided : (d : tie.Else1) → let k = d .before .before .before in undecided (earliest (stages (plan-words (words k))) (found k .counts)) ≡ false
+decided d = sym (ap undecided (d .before .before .answer-to .ensures)) ∙ sym (d .before .is-undecided .ensures) ∙ d .if1 .left
 
 answer-to-requires : tie.Need-answer-to-requires
 answer-to-requires c κs =
-    let k = c in
-    let x = k .before .before .before .before .before in
-    let f = k .before .f .given .0 .0 in
-    answer-requires (x .args .lot) (x .args .sheet .now) f (facts k)
+    answer-requires (lot-of c) (words c) (found c) (facts c)
 
 returns : tie.Need-returns
 returns c =
     let k = c .before .before .before in
-    let x = k .before .before .before .before .before in
-    let f = k .before .f .given .0 .0 in
-    rw (estimate-undecided (x .args .lot) (x .args .sheet .now) f (facts k) (sym (ap undecided (c .before .before .answer-to .ensures)) ∙ sym (c .before .is-undecided .ensures) ∙ c .if1 .taken)) refl
+    rw (estimate-undecided (lot-of k) (words k) (found k) (facts k) (sym (ap undecided (c .before .before .answer-to .ensures)) ∙ sym (c .before .is-undecided .ensures) ∙ c .if1 .taken)) refl
 
 returns-2 : tie.Need-returns-2
 returns-2 c =
-    let k = c .before .before .before .before .before in
-    let x = k .before .before .before .before .before in
-    let f = k .before .f .given .0 .0 in
-    rw (estimate-stages (x .args .lot) (x .args .sheet .now) f (facts k) (sym (ap undecided (c .before .before .before .before .answer-to .ensures)) ∙ sym (c .before .before .before .is-undecided .ensures) ∙ c .before .before .if1 .left) (c .if2 .taken)) refl
+    let d = c .before .before in
+    let k = d .before .before .before in
+    rw (estimate-stages (lot-of k) (words k) (found k) (facts k) (decided d) (c .if2 .taken)) refl
 
 field-of-requires : tie.Need-field-of-requires
 field-of-requires c κs =
     let k = c .before .before .before .before .before in
-    let x = k .before .before .before .before .before in
-    let f = k .before .f .given .0 .0 in
-    (omega (arith, lot-inside (x .args .lot) (x .args .sheet .now) f (facts k)), short-enough (x .args .sheet .now) (facts k .size))
+    (omega (arith, lot-inside (lot-of k) (words k) (found k) (facts k)), short-enough (words k) (facts k .size))
 
 field-of-requires-2 : tie.Need-field-of-requires-2
 field-of-requires-2 c κs =
-    let k = c .before .before .before .before .before .before in
-    let x = k .before .before .before .before .before in
-    let f = k .before .f .given .0 .0 in
-    rw (c .field-of .ensures) (omega (arith, newest-unit (x .args .lot) (x .args .sheet .now) f (facts k) (sym (ap undecided (c .before .before .before .before .before .answer-to .ensures)) ∙ sym (c .before .before .before .before .is-undecided .ensures) ∙ c .before .before .before .if1 .left) .inside), short-enough (x .args .sheet .now) (facts k .size))
+    let d = c .before .before .before in
+    let k = d .before .before .before in
+    rw (c .field-of .ensures) (omega (arith, newest-unit (lot-of k) (words k) (found k) (facts k) (decided d) .inside), short-enough (words k) (facts k .size))
 
 without-unit-requires : tie.Need-without-unit-requires
 without-unit-requires c κs =
-    let k = c .before .before .before .before .before .before .before in
-    let x = k .before .before .before .before .before in
-    let f = k .before .f .given .0 .0 in
-    rw (c .field-of2 .ensures, c .before .field-of .ensures) (estimate-requires (x .args .lot) (x .args .sheet .now) f (facts k) (sym (ap undecided (c .before .before .before .before .before .before .answer-to .ensures)) ∙ sym (c .before .before .before .before .before .is-undecided .ensures) ∙ c .before .before .before .before .if1 .left))
+    let d = c .before .before .before .before in
+    let k = d .before .before .before in
+    rw (c .field-of2 .ensures, c .before .field-of .ensures) (estimate-requires (lot-of k) (words k) (found k) (facts k) (decided d))
 
 -- the counts before the last unit
-older : (c : tie.After-without-unit) → let k = c .before .before .before .before .before .before .before .before in let x = k .before .before .before .before .before in
-    c .without-unit .result ≡ without-unit (field (x .args .sheet .now) (newest (x .args .sheet .now) (k .before .f .given .0 .0 .at)) 0) (k .before .f .given .0 .0 .counts)
+older : (c : tie.After-without-unit) → let k = c .before .before .before .before .before .before .before .before in
+    c .without-unit .result ≡ without-unit (field (words k) (newest (words k) (found k .at)) 0) (found k .counts)
 older c = rw (sym (c .before .before .field-of .ensures), sym (c .before .field-of2 .ensures)) (c .without-unit .ensures)
 
 units-requires : tie.Need-units-requires
 units-requires c κs =
-    let k = c .before .before .before .before .before .before .before .before .before .before .before in
-    let x = k .before .before .before .before .before in
-    let f = k .before .f .given .0 .0 in
-    rw (older (c .before .before .before)) (older-few (x .args .lot) (x .args .sheet .now) f (facts k) (sym (ap undecided (c .before .before .before .before .before .before .before .before .before .before .answer-to .ensures)) ∙ sym (c .before .before .before .before .before .before .before .before .before .is-undecided .ensures) ∙ c .before .before .before .before .before .before .before .before .if1 .left))
+    let o = c .before .before .before in
+    let d = o .before .before .before .before .before in
+    let k = d .before .before .before in
+    rw (older o) (older-few (lot-of k) (words k) (found k) (facts k) (decided d))
 
 returns-3 : tie.Need-returns-3
 returns-3 c =
@@ -81,10 +91,11 @@ returns-3 c =
 
 returns-4 : tie.Need-returns-4
 returns-4 c =
-    let k = c .before .before .before .before .before .before .before .before .before .before .before .before in
-    let x = k .before .before .before .before .before in
-    let f = k .before .f .given .0 .0 in
-    rw (estimate-granted (x .args .lot) (x .args .sheet .now) f (facts k) (sym (ap undecided (c .before .before .before .before .before .before .before .before .before .before .before .answer-to .ensures)) ∙ sym (c .before .before .before .before .before .before .before .before .before .before .is-undecided .ensures) ∙ c .before .before .before .before .before .before .before .before .before .if1 .left) (c .before .before .before .before .before .before .before .if2 .left) (c .before .before .before .before .without-unit .result) (older (c .before .before .before .before))) (rw (c .units .ensures) refl)
+    let o = c .before .before .before .before in
+    let d = o .before .before .before .before .before in
+    let k = d .before .before .before in
+    rw (estimate-granted (lot-of k) (words k) (found k) (facts k) (decided d) (o .before .before .before .if2 .left) (o .without-unit .result) (older o))
+    (rw (c .units .ensures) refl)
 
 pub estimate-spec : {M : Type 1} → statement M
 estimate-spec =
@@ -96,7 +107,7 @@ estimate-spec =
     answer-to-requires
     (λ c κs. search needs)
     returns
-    (λ c. let k = c .before .before .before .before in let x = k .before .before .before .before .before in omega (arith, long (x .args .lot) (x .args .sheet .now) (k .before .f .given .0 .0) (facts k)))
+    (λ c. let k = c .before .before .before .before in omega (arith, long (lot-of k) (words k) (found k) (facts k)))
     returns-2
     field-of-requires
     field-of-requires-2

@@ -2,6 +2,7 @@
 use borrow.Author.Needs.{needs}
 use native.Mathlib.Omega.{arith}
 use borrow.Author.Tests.{le-leb, lt-leb}
+use Rattle.sheetmodel.specs.Layout.{accepted-lots, rejected-lots}
 use Rattle.sheet.proofs.header.totals_ok.Statement.{statement}
 use Rattle.sheet.proofs.header.totals_ok.Tie as tie
 
@@ -16,10 +17,10 @@ totals-ok-spec =
     tie.close
     (tie.spec
     (λ c. search needs)
-    (λ c. omega (arith, c .shared-slice-known .given 39))
+    (λ c. omega (arith, c .shared-slice-known .given accepted-lots))
     (λ c. search needs)
-    (λ c. omega (arith, c .shared-slice-known2 .given 40))
-    (λ c. omega (arith, c .shared-slice-known2 .given 40, c .before .shared-slice-known .given 39))
+    (λ c. omega (arith, c .shared-slice-known2 .given rejected-lots))
+    (λ c. omega (arith, c .shared-slice-known2 .given rejected-lots, c .before .shared-slice-known .given accepted-lots))
     (λ c. search needs)
     (λ c. omega (arith, c .shared-slice-known3 .given 41))
     (λ c. search needs)

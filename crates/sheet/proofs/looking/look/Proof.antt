@@ -1,31 +1,39 @@
 -- `sheet::look` meets its contract. Assumes nothing.
+use Prim.Native.Nat.{ℕ}
 use mathlib.Core.Path.{refl, sym, _∙_}
+use mathlib.Core.List.{List}
 use borrow.Author.Needs.{needs}
+use Rattle.sheet.specs.declared.survey.Found.{Found}
 use Rattle.sheet.proofs.LocatedFacts.{With-lot, with-lot}
 use Rattle.sheet.proofs.CallSteps.{answer-requires, few, look-refused, look-shown}
 use Rattle.sheet.proofs.looking.look.Statement.{statement}
 use Rattle.sheet.proofs.looking.look.Tie as tie
 
--- what is known once the lot is found
-facts : (c : tie.After-known-told2) → let x = c .before .before .before .before .before in With-lot (x .args .lot) (x .args .sheet .now) (c .before .f .given .0 .0)
-facts c =
-    let x = c .before .before .before .before .before in
-    let f = c .before .f .given in
-    with-lot (x .args .lot) (x .args .sheet .now) (f .0 .0) (sym (c .before .before .before .locate-lot .ensures) ∙ f .1)
+-- the arguments, and what is found, by the place where the lot is found
+abbrev Place : Type 0
+Place = tie.After-known-told2
+
+abbrev lot-of : Place → ℕ
+lot-of k = k .before .before .before .before .before .args .lot
+
+abbrev words : Place → List ℕ
+words k = k .before .before .before .before .before .args .sheet .now
+
+abbrev found : Place → Found
+found k = k .before .f .given .0 .0
+
+-- and what is known there
+facts : (k : Place) → With-lot (lot-of k) (words k) (found k)
+facts k = with-lot (lot-of k) (words k) (found k) (sym (k .before .before .before .locate-lot .ensures) ∙ k .before .f .given .1)
 
 answer-to-requires : tie.Need-answer-to-requires
 answer-to-requires c κs =
-    let k = c in
-    let x = k .before .before .before .before .before in
-    let f = k .before .f .given .0 .0 in
-    answer-requires (x .args .lot) (x .args .sheet .now) f (facts k)
+    answer-requires (lot-of c) (words c) (found c) (facts c)
 
 units-requires : tie.Need-units-requires
 units-requires c κs =
     let k = c .before in
-    let x = k .before .before .before .before .before in
-    let f = k .before .f .given .0 .0 in
-    few (x .args .lot) (x .args .sheet .now) f (facts k)
+    few (lot-of k) (words k) (found k) (facts k)
 
 returns : tie.Need-returns
 returns c =
@@ -36,9 +44,7 @@ returns c =
 returns-2 : tie.Need-returns-2
 returns-2 c =
     let k = c .before .before in
-    let x = k .before .before .before .before .before in
-    let f = k .before .f .given .0 .0 in
-    rw (look-shown (x .args .lot) (x .args .sheet .now) f (facts k)) (rw (c .units .ensures, c .before .answer-to .ensures) refl)
+    rw (look-shown (lot-of k) (words k) (found k) (facts k)) (rw (c .units .ensures, c .before .answer-to .ensures) refl)
 
 pub look-spec : {M : Type 1} → statement M
 look-spec =

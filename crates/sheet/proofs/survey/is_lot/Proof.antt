@@ -2,8 +2,7 @@
 use borrow.Author.Needs.{needs}
 use borrow.Author.Tests.{lt-ltb, le-ltb, not-true, not-false}
 use mathlib.Core.Path.{ap, sym, _∙_}
-use Rattle.sheet.specs.declared.record.Record.{Record}
-use Rattle.sheet.proofs.Used.{record-within}
+use Rattle.sheet.proofs.Used.{record-within, value, tag}
 use Rattle.sheet.proofs.survey.is_lot.Statement.{statement}
 use Rattle.sheet.proofs.survey.is_lot.Tie as tie
 
@@ -16,10 +15,21 @@ record-at-requires c κs =
     (record-within (s .args .first) (s .args .sheet .now) (s .args .at) (s .pre) (sym (c .before .is-used .ensures) ∙ not-false _ (c .if1 .left)), s .pre .short)
 
 returns-2 : tie.Need-returns-2
-returns-2 c = rw (sym (c .before .before .before .before .is-used .ensures) ∙ not-false _ (c .before .before .before .if1 .left), le-ltb _ _ (rw (ap (λ (r : Record). r .value) (c .before .before .record-at .ensures)) at (c .if2 .taken)))
+returns-2 c =
+    let k = c .before .before in
+    rw (
+      sym (k .before .before .is-used .ensures) ∙ not-false _ (k .before .if1 .left),
+      le-ltb _ _ (rw (ap value (k .record-at .ensures)) at (c .if2 .taken)),
+    )
 
 returns-3 : tie.Need-returns-3
-returns-3 c = rw (sym (c .before .before .before .before .before .is-used .ensures) ∙ not-false _ (c .before .before .before .before .if1 .left), lt-ltb _ _ (rw (ap (λ (r : Record). r .value) (c .before .before .before .record-at .ensures)) at (c .before .if2 .left)), ap (λ (r : Record). r .tag) (c .before .before .before .record-at .ensures))
+returns-3 c =
+    let k = c .before .before .before in
+    rw (
+      sym (k .before .before .is-used .ensures) ∙ not-false _ (k .before .if1 .left),
+      lt-ltb _ _ (rw (ap value (k .record-at .ensures)) at (c .before .if2 .left)),
+      ap tag (k .record-at .ensures),
+    )
 
 pub is-lot-spec : {M : Type 1} → statement M
 is-lot-spec =
