@@ -21,26 +21,51 @@
 extern "C" {
 #endif
 
-/* The refusals. In quotes the word of the specification ("Refused"). */
+/* The refusals; haq_refusal_text gives their sentences. In quotes the word of
+   document 01 where it is another than the name. */
 enum haq_refusal {
     HAQ_GRANTED = 0,
-    HAQ_SHEET_SIZE = 1,      /* "sheet size": below 48 or above 65,536 words */
-    HAQ_PLAN = 2,            /* "plan": a plan given with the call is not admitted */
-    HAQ_CORRUPT = 3,         /* "torn": the words are no sheet */
-    HAQ_LOT_ZERO = 4,        /* "blank lot": open number 0 */
-    HAQ_OPEN_ALREADY = 5,    /* "open already": open a number on the sheet */
-    HAQ_NOT_OPEN = 6,        /* "not open": other call on an absent lot */
-    HAQ_CLASS = 7,           /* "class": a class above 2, anywhere in a list */
-    HAQ_DECIDED = 8,         /* "decided": inspect a decided lot */
-    HAQ_NONE_TO_STRIKE = 9,  /* "none to strike": no inspection */
-    HAQ_UNDECIDED = 10,      /* "undecided": close or estimate too early */
-    HAQ_FULL = 11,           /* "full": a record is needed, none free or unused */
-    HAQ_TALLY_FULL = 12,     /* "tally full": close at 4,000,000 closed lots */
-    HAQ_WEIGHTS = 13,        /* "proportions": weights add to 0 or above 1,000,000 */
-    HAQ_SCRATCH_SHORT = 14,  /* "bench short": chance's scratch too small */
-    HAQ_SEVERAL_STAGES = 15, /* "several stages": estimate with k > 1 */
-    HAQ_LINE = 16            /* "line": not a command; the program lots alone gives it */
+    HAQ_SHEET_SIZE = 1,      /* the sheet has fewer than 48 words or more than 65,536 */
+    HAQ_PLAN = 2,            /* the plan is not admitted */
+    HAQ_CORRUPT = 3,         /* the sheet is corrupt ("torn") */
+    HAQ_LOT_ZERO = 4,        /* 0 is not a lot number ("blank lot") */
+    HAQ_OPEN_ALREADY = 5,    /* the lot is open already */
+    HAQ_NOT_OPEN = 6,        /* the lot is not open */
+    HAQ_CLASS = 7,           /* a class is above 2 */
+    HAQ_DECIDED = 8,         /* the lot is decided */
+    HAQ_NONE_TO_STRIKE = 9,  /* the lot has no inspection to strike */
+    HAQ_UNDECIDED = 10,      /* the lot is undecided */
+    HAQ_FULL = 11,           /* no record is free or unused */
+    HAQ_TALLY_FULL = 12,     /* 4,000,000 lots are closed and the totals have no room for more */
+    HAQ_WEIGHTS = 13,        /* the weights add to 0 or to more than 1,000,000 ("proportions") */
+    HAQ_SCRATCH_SHORT = 14,  /* the scratch is too short for the plan ("bench short") */
+    HAQ_SEVERAL_STAGES = 15, /* the plan has several stages */
+    HAQ_LINE = 16            /* the line is not a command; only the program lots gives it */
 };
+
+/* The sentence of a refusal; "granted" for 0. */
+static inline const char *haq_refusal_text(uint32_t number) {
+    switch (number) {
+    case HAQ_GRANTED: return "granted";
+    case HAQ_SHEET_SIZE: return "the sheet has fewer than 48 words or more than 65,536";
+    case HAQ_PLAN: return "the plan is not admitted";
+    case HAQ_CORRUPT: return "the sheet is corrupt";
+    case HAQ_LOT_ZERO: return "0 is not a lot number";
+    case HAQ_OPEN_ALREADY: return "the lot is open already";
+    case HAQ_NOT_OPEN: return "the lot is not open";
+    case HAQ_CLASS: return "a class is above 2";
+    case HAQ_DECIDED: return "the lot is decided";
+    case HAQ_NONE_TO_STRIKE: return "the lot has no inspection to strike";
+    case HAQ_UNDECIDED: return "the lot is undecided";
+    case HAQ_FULL: return "no record is free or unused";
+    case HAQ_TALLY_FULL: return "4,000,000 lots are closed and the totals have no room for more";
+    case HAQ_WEIGHTS: return "the weights add to 0 or to more than 1,000,000";
+    case HAQ_SCRATCH_SHORT: return "the scratch is too short for the plan";
+    case HAQ_SEVERAL_STAGES: return "the plan has several stages";
+    case HAQ_LINE: return "the line is not a command";
+    default: return "unknown refusal";
+    }
+}
 
 /* States of a lot. */
 enum haq_state { HAQ_STATE_UNDECIDED = 0, HAQ_STATE_ACCEPTED = 1, HAQ_STATE_REJECTED = 2 };
@@ -85,7 +110,8 @@ uint32_t haq_estimate(const uint32_t *sheet, size_t n, uint32_t lot, uint64_t ou
 /* Judges a list of classes four ways: stop (0 if not reached) and state of
    uncurtailed, semi, full and earliest; last the event at full's stop (0 if it
    is not reached or the plan has several stages). Refusals 2, 7. */
-uint32_t haq_judge(const uint32_t *plan, size_t plan_n, const uint8_t *list, size_t n, uint32_t out[9]);
+uint32_t haq_judge(const uint32_t *plan, size_t plan_n, const uint8_t *list, size_t n,
+                   uint32_t out[9]);
 
 /* The chance of acceptance lies between low and high, in units of 2^-40, where
    classes 0, 1, 2 have weights w0, w1, w2. The scratch words that the plan needs

@@ -10,19 +10,20 @@ static void done(const char *call, uint32_t refusal) {
     if (refusal == HAQ_GRANTED)
         printf("%s: ok\n", call);
     else
-        printf("%s: refused %" PRIu32 "\n", call, refusal);
+        printf("%s: refused %" PRIu32 ": %s\n", call, refusal, haq_refusal_text(refusal));
 }
 
 static void show_lot(uint32_t *sheet, size_t n) {
     uint32_t look[5];
     uint64_t estimate[4];
     if (haq_look(sheet, n, 7, look) == HAQ_GRANTED)
-        printf("look 7: %s after %" PRIu32 " units, %" PRIu32 " good, %" PRIu32 " marginal, %" PRIu32 " bad\n",
+        printf("look 7: %s after %" PRIu32 " units, %" PRIu32 " good, %" PRIu32 " marginal, %" PRIu32
+               " bad\n",
                STATES[look[0]], look[1], look[2], look[3], look[4]);
     done("inspect 7 0", haq_inspect(sheet, n, 7, 0));
     if (haq_estimate(sheet, n, 7, estimate) == HAQ_GRANTED)
-        printf("estimate 7: %" PRIu64 ", %" PRIu64 ", %" PRIu64 " over %" PRIu64 "\n", estimate[0], estimate[1],
-               estimate[2], estimate[3]);
+        printf("estimate 7: %" PRIu64 ", %" PRIu64 ", %" PRIu64 " over %" PRIu64 "\n", estimate[0],
+               estimate[1], estimate[2], estimate[3]);
 }
 
 static void keep_sheet(uint32_t *sheet, size_t n) {
@@ -38,8 +39,8 @@ static void keep_sheet(uint32_t *sheet, size_t n) {
     show_lot(sheet, n);
     done("close 7", haq_close(sheet, n, 7));
     if (haq_tally(sheet, n, tally) == HAQ_GRANTED)
-        printf("tally: %" PRIu32 " accepted, %" PRIu32 " rejected; %" PRIu32 " good, %" PRIu32 " marginal, %" PRIu32
-               " bad\n",
+        printf("tally: %" PRIu32 " accepted, %" PRIu32 " rejected; %" PRIu32 " good, %" PRIu32
+               " marginal, %" PRIu32 " bad\n",
                tally[0], tally[1], tally[2], tally[3], tally[4]);
 }
 

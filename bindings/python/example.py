@@ -11,7 +11,7 @@ def done(call, function, *rest):
         function(*rest)
         print(f"{call}: ok")
     except Refused as refusal:
-        print(f"{call}: refused {refusal.number}")
+        print(f"{call}: {refusal}")
 
 
 def show_lot(sheet):
@@ -43,7 +43,7 @@ def judged(classes):
     try:
         it = judge(PLAN, classes)
     except Refused as refusal:
-        print(f"judge: refused {refusal.number}")
+        print(f"judge: {refusal}")
         return
     ways = zip(["uncurtailed", "semi", "full", "earliest"], it)
     stops = "".join(f" {way} {stop.units} {STATES[stop.state]}," for way, stop in ways)

@@ -21,11 +21,44 @@ _f64, _size = ctypes.c_double, ctypes.c_size_t
 
 
 class Refused(Exception):
-    """A refused call; number is that of the refusal."""
+    """A refused call. Each refusal has its own subclass, as Decided, with number and text."""
+
+    text = "unknown refusal"
 
     def __init__(self, number):
-        super().__init__(f"refused {number}")
+        super().__init__(number)
         self.number = number
+
+    def __str__(self):
+        return f"refused {self.number}: {self.text}"
+
+
+# Number, subclass and sentence of each refusal (docs/SPECIFICATION.md, "Refused").
+_TABLE = [
+    (1, "SheetSize", "the sheet has fewer than 48 words or more than 65,536"),
+    (2, "Plan", "the plan is not admitted"),
+    (3, "Corrupt", "the sheet is corrupt"),
+    (4, "LotZero", "0 is not a lot number"),
+    (5, "OpenAlready", "the lot is open already"),
+    (6, "NotOpen", "the lot is not open"),
+    (7, "Class", "a class is above 2"),
+    (8, "Decided", "the lot is decided"),
+    (9, "NoneToStrike", "the lot has no inspection to strike"),
+    (10, "Undecided", "the lot is undecided"),
+    (11, "Full", "no record is free or unused"),
+    (12, "TallyFull", "4,000,000 lots are closed and the totals have no room for more"),
+    (13, "Weights", "the weights add to 0 or to more than 1,000,000"),
+    (14, "ScratchShort", "the scratch is too short for the plan"),
+    (15, "SeveralStages", "the plan has several stages"),
+    (16, "Line", "the line is not a command"),
+]
+
+# The subclasses by number; each is an attribute of the module too.
+REFUSALS = {
+    number: type(name, (Refused,), {"__doc__": text, "number": number, "text": text})
+    for number, name, text in _TABLE
+}
+globals().update((kind.__name__, kind) for kind in REFUSALS.values())
 
 
 Look = namedtuple("Look", "state units good marginal bad")
@@ -73,7 +106,7 @@ def _words(numbers):
 
 def _granted(number):
     if number:
-        raise Refused(number)
+        raise REFUSALS.get(number, Refused)(number)
 
 
 class Sheet:

@@ -20,7 +20,7 @@ fn word(state: u32) -> &'static str {
 fn done<T>(call: &str, reply: Reply<T>) {
     match reply {
         Ok(_) => println!("{call}: ok"),
-        Err(refusal) => println!("{call}: refused {}", refusal.0),
+        Err(refusal) => println!("{call}: {refusal}"),
     }
 }
 

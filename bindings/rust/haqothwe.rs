@@ -1,9 +1,77 @@
 //! Safe calls of the library; include/haqothwe.h says what each does. Link with
 //! `-l static=export`.
 
-/// The number of a refusal.
-#[derive(Clone, Copy, Debug, PartialEq, Eq)]
-pub struct Refusal(pub u32);
+// A program that takes this file as a module may use a part of it.
+#![allow(dead_code)]
+
+use std::error::Error;
+use std::fmt;
+
+/// The refusals from their table: number, name and sentence of each.
+macro_rules! refusals {
+    ($($number:literal $name:ident $text:literal)*) => {
+        /// Why a call is refused.
+        #[derive(Clone, Copy, Debug, PartialEq, Eq, Hash)]
+        pub enum Refusal {
+            $(#[doc = $text] $name,)*
+            /// A number that is not in the table; the library returns none.
+            Other(u32),
+        }
+
+        impl Refusal {
+            pub fn number(self) -> u32 {
+                match self {
+                    $(Refusal::$name => $number,)*
+                    Refusal::Other(number) => number,
+                }
+            }
+
+            pub fn text(self) -> &'static str {
+                match self {
+                    $(Refusal::$name => $text,)*
+                    Refusal::Other(_) => "unknown refusal",
+                }
+            }
+        }
+
+        impl From<u32> for Refusal {
+            fn from(number: u32) -> Refusal {
+                match number {
+                    $($number => Refusal::$name,)*
+                    _ => Refusal::Other(number),
+                }
+            }
+        }
+    };
+}
+
+// docs/SPECIFICATION.md, "Refused".
+refusals! {
+    1 SheetSize "the sheet has fewer than 48 words or more than 65,536"
+    2 Plan "the plan is not admitted"
+    3 Corrupt "the sheet is corrupt"
+    4 LotZero "0 is not a lot number"
+    5 OpenAlready "the lot is open already"
+    6 NotOpen "the lot is not open"
+    7 Class "a class is above 2"
+    8 Decided "the lot is decided"
+    9 NoneToStrike "the lot has no inspection to strike"
+    10 Undecided "the lot is undecided"
+    11 Full "no record is free or unused"
+    12 TallyFull "4,000,000 lots are closed and the totals have no room for more"
+    13 Weights "the weights add to 0 or to more than 1,000,000"
+    14 ScratchShort "the scratch is too short for the plan"
+    15 SeveralStages "the plan has several stages"
+    16 Line "the line is not a command"
+}
+
+impl fmt::Display for Refusal {
+    fn fmt(&self, out: &mut fmt::Formatter) -> fmt::Result {
+        write!(out, "refused {}: {}", self.number(), self.text())
+    }
+}
+
+impl Error for Refusal {}
 
 pub type Reply<T> = Result<T, Refusal>;
 
@@ -73,16 +141,24 @@ extern "C" {
     fn haq_look(sheet: *const u32, n: usize, lot: u32, out: &mut Look) -> u32;
     fn haq_tally(sheet: *const u32, n: usize, out: &mut Tally) -> u32;
     fn haq_estimate(sheet: *const u32, n: usize, lot: u32, out: &mut Estimate) -> u32;
-    fn haq_judge(plan: *const u32, plan_n: usize, list: *const u8, n: usize, out: &mut Judgement) -> u32;
-    fn haq_chance(plan: *const u32, plan_n: usize, w0: u32, w1: u32, w2: u32, scratch: *mut u64, n: usize, out: &mut [u64; 2]) -> u32;
-    fn haq_chart(plan: *const u32, plan_n: usize, w0: u32, w1: u32, w2: u32, scratch: *mut u64, n: usize, out: &mut [f64; 2]) -> u32;
+    fn haq_judge(
+        plan: *const u32, plan_n: usize, list: *const u8, n: usize, out: &mut Judgement,
+    ) -> u32;
+    fn haq_chance(
+        plan: *const u32, plan_n: usize, w0: u32, w1: u32, w2: u32,
+        scratch: *mut u64, n: usize, out: &mut [u64; 2],
+    ) -> u32;
+    fn haq_chart(
+        plan: *const u32, plan_n: usize, w0: u32, w1: u32, w2: u32,
+        scratch: *mut u64, n: usize, out: &mut [f64; 2],
+    ) -> u32;
 }
 
 fn reply<T: Default>(call: impl FnOnce(&mut T) -> u32) -> Reply<T> {
     let mut out = T::default();
     match call(&mut out) {
         0 => Ok(out),
-        number => Err(Refusal(number)),
+        number => Err(Refusal::from(number)),
     }
 }
 
