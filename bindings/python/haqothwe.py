@@ -8,6 +8,8 @@ import os
 from collections import namedtuple
 from pathlib import Path
 
+import plan_rules
+
 UNDECIDED, ACCEPTED, REJECTED = 0, 1, 2
 
 # Words of scratch that are enough for every admitted plan.
@@ -147,6 +149,11 @@ class Sheet:
         out = (_u64 * 4)()
         self._call(_estimate, _word(lot), out)
         return Estimate(*out)
+
+
+def broken_rules(plan):
+    """The rules of admission that a plan breaks, in words; none exactly where it is admitted."""
+    return plan_rules.broken_rules(list(_words(plan)))
 
 
 def judge(plan, classes):

@@ -2,8 +2,12 @@
 //! `-l static=export`.
 
 // A program that takes this file as a module may use a part of it.
-#![allow(dead_code)]
+#![allow(dead_code, unused_imports)]
 
+#[path = "plan_rules.rs"]
+mod plan_rules;
+
+pub use plan_rules::broken_rules;
 use std::error::Error;
 use std::fmt;
 
