@@ -1,0 +1,62 @@
+"""The usage of bin/lots and its manual, docs/lots.1, against the table and the program."""
+
+import os
+import unittest
+
+from common import ROOT, refusals, run
+
+PROGRAM = os.environ["LOTS"]
+MANUAL = (ROOT / "docs" / "lots.1").read_text(encoding="ascii")
+
+COMMANDS = ["p N A1 R1 A2 R2 ..", "o LOT", "i LOT CLASS", "s LOT", "l LOT", "c LOT", "t"]
+
+# Refusals of calls that the program does not make, or not so that they are given.
+OF_THE_LIBRARY_ALONE = {1, 13, 14, 15}
+
+
+def literal_blocks():
+    parts = MANUAL.split(".Bd -literal -offset indent\n")[1:]
+    return [part.split(".Ed\n", 1)[0] for part in parts]
+
+
+class Usage(unittest.TestCase):
+    def test_help(self):
+        long, short = run("bin/lots", "--help"), run("bin/lots", "-h")
+        self.assertEqual((long.returncode, long.stderr), (0, ""))
+        self.assertEqual((short.returncode, short.stdout), (0, long.stdout))
+        words = " ".join(long.stdout.split())
+        for command in COMMANDS:
+            self.assertIn(f"\n  {command} ", long.stdout)
+        for number, name, _ in refusals():
+            self.assertEqual(f" {number} {name}" in words, number not in OF_THE_LIBRARY_ALONE, name)
+
+    def test_other_arguments(self):
+        for arguments in (["x"], ["--helpful"], [""], ["p", "5"], ["x", "--help"]):
+            done = run("bin/lots", *arguments, input="t\n")
+            self.assertEqual((done.returncode, done.stdout), (2, ""), arguments)
+            self.assertIn("usage: bin/lots", done.stderr)
+
+
+class Manual(unittest.TestCase):
+    def test_refusals(self):
+        for number, name, text in refusals():
+            self.assertIn(f"\n.It {number}\n{name}: {text}\n", MANUAL)
+
+    def test_example(self):
+        """The commands of the manual get its replies."""
+        commands, replies = literal_blocks()
+        done = run(PROGRAM, input=commands)
+        self.assertEqual((done.returncode, done.stdout, done.stderr), (0, replies, ""))
+
+    def test_limits(self):
+        before = run(PROGRAM, input="t\no 7\np 5 2 3 1\np 5 2 3 1 3\n")
+        self.assertEqual(before.stdout, "no 3\nno 3\nno 16\nno 2\n")
+        opens = "".join(f"o {lot}\n" for lot in range(1, 4087))
+        full = run(PROGRAM, input="p 5 2 3 1 2\n" + opens)
+        self.assertEqual(full.stdout, "ok\n" * 4086 + "no 11\n")
+        long = run(PROGRAM, input=f"t{' ' * 300}\no 1")
+        self.assertEqual((long.returncode, long.stdout), (0, "no 16\nno 3\n"))
+
+
+if __name__ == "__main__":
+    unittest.main()
