@@ -28,9 +28,10 @@ def camel(name):
     return name.title().replace(" ", "")
 
 
-def run(*command, **more):
+def run(*command, stderr=subprocess.PIPE, **more):
     """A finished program with its status, its output and its errors as text."""
-    return subprocess.run(command, cwd=ROOT, capture_output=True, text=True, **more)
+    pipe = subprocess.PIPE
+    return subprocess.run(command, cwd=ROOT, text=True, stdout=pipe, stderr=stderr, **more)
 
 
 def built(*command):

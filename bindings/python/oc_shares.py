@@ -1,0 +1,40 @@
+"""Shares of a lot, as whole numbers of millionths, so that they are weights without rounding."""
+
+import re
+from itertools import count
+
+# All units of a lot; the most that weights may add to.
+WHOLE = 1_000_000
+
+
+def shares(text):
+    """Percentages with commas between them, in ascending order and each once."""
+    return sorted(set(map(_share, text.split(","))))
+
+
+def _share(text):
+    match = re.fullmatch(r"([0-9]{1,3})(?:\.([0-9]{1,4}))?", text)
+    share = match and int(match[1]) * 10_000 + int((match[2] or "").ljust(4, "0"))
+    if share is None or share > WHOLE:
+        raise ValueError(f"'{text}' is not a percentage from 0 to 100 with at most four decimals")
+    return share
+
+
+def percent(share):
+    return f"{share / 10_000:g}"
+
+
+def weights(marginal, bad):
+    return WHOLE - marginal - bad, marginal, bad
+
+
+def round_step(span, most):
+    """The least of 1, 2, 5, 10, 20, 50, .. that covers a span in at most so many steps."""
+    steps = (digit * 10**zeros for zeros in count() for digit in (1, 2, 5))
+    return next(step for step in steps if step * most >= span)
+
+
+def rounds(last, most):
+    """Round shares from 0 to the first that is not below the last, at most so many steps."""
+    step = round_step(last, most)
+    return list(range(0, last + step, step))

@@ -1,0 +1,232 @@
+"""bin/oc: published chances, rounding, default shares, CSV, drawings and wrong arguments."""
+
+import csv
+import io
+import os
+import pty
+import shlex
+import shutil
+import unittest
+import xml.etree.ElementTree as xml
+from contextlib import redirect_stderr, redirect_stdout
+from fractions import Fraction
+
+import haqothwe
+import oc
+from common import ROOT, WORK, run
+
+SINGLE = "40 7 8 2 3".split()
+DOUBLE = "80 5 9 1 4 80 12 13 4 5".split()
+
+# Table 5.1 of document 003 for the plan SINGLE: per cent bad, then Pa for 5, 10, 15 and 20 per
+# cent marginal. Its last digit is taken as right to one unit.
+PUBLISHED = """\
+2 0.951052 0.871304 0.618814 0.315923
+4 0.780695 0.688429 0.449754 0.207331
+6 0.561672 0.480158 0.293239 0.124068
+8 0.365494 0.304034 0.175054 0.068581"""
+
+SVG = "{http://www.w3.org/2000/svg}"
+
+
+def called(*arguments):
+    """Exit status, output and errors of bin/oc, in this process, which is faster."""
+    out, errors = io.StringIO(), io.StringIO()
+    with redirect_stdout(out), redirect_stderr(errors):
+        try:
+            status = oc.main(arguments)
+        except SystemExit as end:
+            status = end.code
+    return status, out.getvalue(), errors.getvalue()
+
+
+def printed(*arguments):
+    """What bin/oc prints; it has nothing to say beside."""
+    status, out, errors = called(*arguments)
+    if status or errors:
+        raise AssertionError(errors)
+    return out
+
+
+def csv_rows(*arguments):
+    head, *rows = csv.reader(io.StringIO(printed("--csv", *arguments)))
+    assert head == ["marginal_percent", "bad_percent", "low", "high"]
+    return [list(map(Fraction, row)) for row in rows]
+
+
+def bounds(plan, marginal, bad):
+    """Low and high for percentages, as fractions."""
+    weights = [int(share * 10_000) for share in (100 - marginal - bad, marginal, bad)]
+    return [Fraction(bound, 2**40) for bound in haqothwe.chance(list(map(int, plan)), weights)]
+
+
+class Numbers(unittest.TestCase):
+    def test_published(self):
+        text = printed("--marginal", "5,10,15,20", "--bad", "2,4,6,8", *SINGLE)
+        rows = [line.split() for line in text.splitlines()[4:]]
+        published = [line.split() for line in PUBLISHED.splitlines()]
+        self.assertEqual(len(rows), len(published))
+        for row, (bad, *chances) in zip(rows, published):
+            self.assertEqual((row[0], len(row)), (bad, 1 + 2 * len(chances)))
+            for i, chance in enumerate(chances):
+                for bound in row[1 + 2 * i:3 + 2 * i]:
+                    self.assertLessEqual(abs(Fraction(bound) - Fraction(chance)), Fraction("1e-6"))
+
+    def test_rounded_outward(self):
+        """To the next decimal, and to the same one where the bound is that decimal."""
+        shares = ["--marginal", "0,12.5", "--bad", "0,2.5,3.0001"]
+        for digits in (1, 6, 12):
+            unit = Fraction(1, 10**digits)
+            for marginal, bad, *rounded in csv_rows("--digits", str(digits), *shares, *DOUBLE):
+                low, high = bounds(DOUBLE, marginal, bad)
+                self.assertTrue(rounded[0] <= low < rounded[0] + unit)
+                self.assertTrue(rounded[1] - unit < high <= rounded[1])
+
+    def test_table_is_csv(self):
+        """The same numbers, "-" in the table where the shares would add to over 100 %."""
+        for plan in (SINGLE, DOUBLE, "1 0 1 0 1".split()):
+            lines = printed(*plan).splitlines()[4:]
+            cells = [cell for line in lines for cell in line.split()[1:] if cell != "-"]
+            rows = sorted(csv_rows(*plan), key=lambda row: (row[1], row[0]))
+            bounds_in_rows = [bound for row in rows for bound in row[2:]]
+            self.assertEqual([Fraction(cell) for cell in cells], bounds_in_rows)
+
+    def test_default_shares(self):
+        """The curve without marginal units is shown from 1 down to below 1 %, in round steps."""
+        plans = "5 2 3 1 2", "1 0 1 0 1", "1000 39 40 39 40", "1000 0 1 0 1", "60 59 60 59 60"
+        for text in plans:
+            every = csv_rows(*text.split())
+            rows = [row for row in every if row[0] == 0]
+            bads = [row[1] for row in rows]
+            step = bads[1] - bads[0]
+            self.assertIn(f"{float(step):e}"[0], "125")
+            self.assertEqual(bads, [step * i for i in range(len(bads))])
+            self.assertTrue(8 <= len(bads) <= 21, text)
+            self.assertEqual(rows[0][2], 1)
+            self.assertLess(rows[-1][3], Fraction("0.01"))
+            self.assertEqual(len({row[0] for row in every}), 3)
+
+
+class Drawing(unittest.TestCase):
+    def drawn(self, *arguments):
+        path = WORK / "oc.svg"
+        printed("--svg", str(path), *arguments)
+        return xml.parse(path).getroot()
+
+    def scale(self, root, axis):
+        """From a coordinate to what its axis shows, by the first and the last tick."""
+        ticks = [text for text in root.iter(f"{SVG}text") if text.get("class") == axis]
+        places = [float(tick.get(axis)) for tick in (ticks[0], ticks[-1])]
+        values = [float(tick.text) for tick in (ticks[0], ticks[-1])]
+        slope = (values[1] - values[0]) / (places[1] - places[0])
+        # The number of a tick of the y axis stands five lower than its line.
+        shift = 5 if axis == "y" else 0
+        return lambda place: values[0] + (place + shift - places[0]) * slope
+
+    def test_points(self):
+        """Each point is where its share and its chance are, to a twentieth of a unit."""
+        root = self.drawn("--marginal", "0,5,10", *DOUBLE)
+        across, down = self.scale(root, "x"), self.scale(root, "y")
+        curves = root.findall(f"{SVG}polyline")
+        self.assertEqual(len(curves), 3)
+        for curve, marginal in zip(curves, (0, 5, 10)):
+            self.assertEqual(curve.find(f"{SVG}title").text, f"marginal {marginal} %")
+            points = [point.split(",") for point in curve.get("points").split()]
+            self.assertGreater(len(points), 100)
+            for x, y in points:
+                bad = Fraction(round(across(float(x)) * 10_000), 10_000)
+                low, high = bounds(DOUBLE, marginal, bad)
+                self.assertAlmostEqual(down(float(y)), float(low + high) / 2, delta=0.05 / 340)
+
+    def test_parts(self):
+        root = self.drawn("--bad", "0,5,20", "--marginal", "2.5,33.3333", *SINGLE)
+        texts = [text.text for text in root.iter(f"{SVG}text")]
+        for text in ("Plan (n a1 r1 a2 r2): 40 7 8 2 3", "2.5 %", "33.3333 %", "Marginal units",
+                     "Share of bad units (%)", "Chance of acceptance"):
+            self.assertIn(text, texts)
+        self.assertEqual(root.find(f"{SVG}rect").get("fill"), "#ffffff")
+        _, _, width, height = map(float, root.get("viewBox").split())
+        for text in root.iter(f"{SVG}text"):
+            self.assertTrue(0 <= float(text.get("x")) <= width)
+            self.assertTrue(0 <= float(text.get("y")) <= height)
+
+    def test_picture_of_the_documents(self):
+        """docs/oc.svg is what the command that it names draws."""
+        page = (ROOT / "docs" / "oc.svg").read_text(encoding="utf-8")
+        made_by = xml.fromstring(page).find(f"{SVG}desc").text
+        command, *arguments = shlex.split(made_by.removeprefix("Made by: "))
+        place = arguments.index("docs/oc.svg")
+        arguments[place] = str(WORK / "again.svg")
+        self.assertEqual(run(command, *arguments).returncode, 0)
+        again = (WORK / "again.svg").read_text(encoding="utf-8")
+        self.assertEqual(again.replace(arguments[place], "docs/oc.svg"), page)
+
+
+class Arguments(unittest.TestCase):
+    WRONG = [
+        ("", "no plan is given"),
+        ("five", "'five' is not a number"),
+        ("5 2 3 1 4294967296", "'4294967296' is not a number"),
+        ("5 2 3 1 -2", "'-2' is not a number"),
+        ("5 2 3 1", "length 4 is not a multiple of 5"),
+        ("5 2 3 1 3", "the plan is not admitted:\n  stage 1, the last: a2 + 1 = 2 is not r2 = 3"),
+        ("--bad x 5 2 3 1 2", "'x' is not a percentage"),
+        ("--bad 101 5 2 3 1 2", "'101' is not a percentage"),
+        ("--bad 1,,2 5 2 3 1 2", "'' is not a percentage"),
+        ("--bad 0.00001 5 2 3 1 2", "'0.00001' is not a percentage"),
+        ("--marginal -1 5 2 3 1 2", "'-1' is not a percentage"),
+        ("--marginal 0,50 --bad 2,50.0001 5 2 3 1 2",
+         "50 % marginal and 50.0001 % bad units add to over 100 %"),
+        ("--digits 13 5 2 3 1 2", "'13' is not a number from 1 to 12"),
+        ("--colour 5 2 3 1 2", "unrecognized arguments: --colour"),
+        ("--bad 5 --svg x.svg 5 2 3 1 2", "a drawing needs two shares"),
+        ("--marginal 0,1,2,3,4,5,6,7,8 --svg x.svg 5 2 3 1 2", "has at most 8 curves"),
+        ("--svg /no/such/place.svg 5 2 3 1 2", "/no/such/place.svg cannot be written"),
+    ]
+
+    def test_wrong(self):
+        for arguments, sentence in self.WRONG:
+            status, out, errors = called(*arguments.split())
+            self.assertEqual((status, out), (2, ""), arguments)
+            self.assertIn(sentence, errors)
+        done = run("bin/oc", *arguments.split())
+        self.assertEqual((done.returncode, done.stdout, done.stderr), (status, out, errors))
+
+    def test_help_needs_no_library(self):
+        nowhere = {**os.environ, "HAQOTHWE_LIBRARY": "/no/such/library.so"}
+        done = run("bin/oc", "--help", env=nowhere)
+        self.assertEqual((done.returncode, done.stderr), (0, ""))
+        self.assertIn("usage: bin/oc", done.stdout)
+        done = run("bin/oc", *SINGLE, env=nowhere)
+        self.assertEqual((done.returncode, done.stdout), (1, ""))
+        self.assertIn("bin/oc: the library cannot be loaded: /no/such/library.so", done.stderr)
+
+    def test_progress(self):
+        """On a terminal alone."""
+        terminal, standard_error = pty.openpty()
+        done = run("bin/oc", *SINGLE, stderr=standard_error)
+        os.close(standard_error)
+        shown = os.read(terminal, 10_000).decode()
+        os.close(terminal)
+        self.assertEqual(done.stdout, printed(*SINGLE))
+        self.assertIn("\r62 of 63 chances ", shown)
+
+    def test_shared_object(self):
+        """In a repository without one, bin/shared-object is called, and only then."""
+        root = WORK / "root"
+        shutil.copytree(ROOT / "bindings" / "python", root / "bindings" / "python")
+        (root / "bin").mkdir()
+        (root / "target").mkdir()
+        shutil.copy(ROOT / "bin" / "oc", root / "bin" / "oc")
+        maker = root / "bin" / "shared-object"
+        maker.write_text(f"#!/bin/sh\necho made >&2\n"
+                         f"cp '{os.environ['HAQOTHWE_LIBRARY']}' '{root}/target/libhaqothwe.so'\n")
+        maker.chmod(0o755)
+        bare = {key: value for key, value in os.environ.items() if key != "HAQOTHWE_LIBRARY"}
+        for said in ("made\n", ""):
+            done = run(root / "bin" / "oc", *SINGLE, env=bare)
+            self.assertEqual((done.stdout, done.stderr), (printed(*SINGLE), said))
+
+
+if __name__ == "__main__":
+    unittest.main()
