@@ -17,8 +17,8 @@ static void show_lot(uint32_t *sheet, size_t n) {
     uint32_t look[5];
     uint64_t estimate[4];
     if (haq_look(sheet, n, 7, look) == HAQ_GRANTED)
-        printf("look 7: %s after %" PRIu32 " units, %" PRIu32 " good, %" PRIu32 " marginal, %" PRIu32
-               " bad\n",
+        printf("look 7: %s after %" PRIu32 " units, %" PRIu32 " good, %" PRIu32
+               " marginal, %" PRIu32 " bad\n",
                STATES[look[0]], look[1], look[2], look[3], look[4]);
     done("inspect 7 0", haq_inspect(sheet, n, 7, 0));
     if (haq_estimate(sheet, n, 7, estimate) == HAQ_GRANTED)
