@@ -1,49 +1,55 @@
 // Cases on the chance of acceptance: three weights, the number of words of scratch, and the plan.
-use crate::print::Reply;
+use crate::print::bad_line;
+use crate::print::pair;
+use cases::print;
 use chance::BoundsAnswer;
 use chance::ChartAnswer;
 ghost use Prim.Native.Nat.{_≤_};
 ghost use lib.ListN.{length};
 
 // Low and high.
-fn bounds(words: &[u32], scratch: &mut [u64]) -> Reply
+fn bounds(words: &[u32], scratch: &mut [u64])
     requires { ⌜ 4 ≤ length (now words) ⌝ }
 {
     match chance::chance(&words[4..], words[0], words[1], words[2], scratch) {
-        BoundsAnswer::Pair(bounds) => Reply::Pair(bounds.low, bounds.high),
-        BoundsAnswer::Refused(number) => Reply::No(number as u64),
+        BoundsAnswer::Pair(bounds) => pair(bounds.low, bounds.high),
+        BoundsAnswer::Refused(number) => print::refusal(number as u64),
     }
 }
 
 // The floats of the chart, by their bit patterns.
-fn chart(words: &[u32], scratch: &mut [u64]) -> Reply
+fn chart(words: &[u32], scratch: &mut [u64])
     requires { ⌜ 4 ≤ length (now words) ⌝ }
 {
     match chance::chart(&words[4..], words[0], words[1], words[2], scratch) {
-        ChartAnswer::Pair(chart) => Reply::Pair(f64::to_bits(chart.low), f64::to_bits(chart.high)),
-        ChartAnswer::Refused(number) => Reply::No(number as u64),
+        ChartAnswer::Pair(chart) => pair(f64::to_bits(chart.low), f64::to_bits(chart.high)),
+        ChartAnswer::Refused(number) => print::refusal(number as u64),
     }
 }
 
 // `c W0 W1 W2 N P1 P2 ..`: low and high. With `f`, the chart. No word of the scratch is 0 before the
 // call, since no call may count on that.
-pub fn answer(text: &[u8], floats: bool) -> Reply {
+pub fn answer(text: &[u8], floats: bool) {
     let mut list = [0u32; 128];
     let n = cases::words(text, 1, &mut list);
     if n < 4 {
-        return Reply::BadLine;
+        bad_line();
+        return;
     }
     if n > 128 {
-        return Reply::BadLine;
+        bad_line();
+        return;
     }
     let needed = list[3];
     if needed > 7200 {
-        return Reply::BadLine;
+        bad_line();
+        return;
     }
     let length = needed as usize;
     let mut scratch = [u64::MAX; 7200];
     if floats {
-        return chart(&list[0..n], &mut scratch[0..length]);
+        chart(&list[0..n], &mut scratch[0..length]);
+    } else {
+        bounds(&list[0..n], &mut scratch[0..length]);
     }
-    bounds(&list[0..n], &mut scratch[0..length])
 }

@@ -1,22 +1,23 @@
 // Answers each case line of standard input by one line on standard output. A line's first byte is
-// its kind. A new kind needs an arm in `reply` and a function on the line, in its own module.
+// its kind. A new kind needs an arm in `answer_case` and a function on the line, in its own module.
 mod chances;
 mod lists;
 mod plans;
 mod print;
 
-use print::Reply;
+use print::bad_line;
 
-fn reply(line: &[u8]) -> Reply {
+fn answer_case(line: &[u8]) {
     if line.len() == 0 {
-        return Reply::BadLine;
+        bad_line();
+        return;
     }
     match line[0] {
         b'a' => plans::admission(line),
         b'j' => lists::judged(line),
         b'c' => chances::answer(line, false),
         b'f' => chances::answer(line, true),
-        _ => Reply::BadLine,
+        _ => bad_line(),
     }
 }
 
@@ -24,9 +25,9 @@ fn reply(line: &[u8]) -> Reply {
 // A part is written with its start, here and in plans, since `..n` would need a proof file.
 fn answer(line: &[u8], n: usize) {
     if n < line.len() {
-        print::write(reply(&line[0..n]));
+        answer_case(&line[0..n]);
     } else {
-        print::write(Reply::BadLine);
+        bad_line();
     }
 }
 

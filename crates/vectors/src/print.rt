@@ -1,25 +1,13 @@
-// The answers, one line each.
+// What is printed beside an answer's numbers.
 use cases::print;
-use judge::Judgement;
 
-pub enum Reply {
-    BadLine,
-    Admitted,
-    // A refusal, with its number.
-    No(u64),
-    Judgement(Judgement),
-    Pair(u64, u64),
+// The reply to a line that is no case.
+pub fn bad_line() {
+    print::text(b"bad line\n");
 }
 
-pub fn write(reply: Reply) {
-    match reply {
-        Reply::BadLine => print::text(b"bad line\n"),
-        Reply::Admitted => print::text(b"admitted\n"),
-        Reply::No(number) => print::refusal(number),
-        Reply::Judgement(j) => print::judgement(j),
-        Reply::Pair(low, high) => {
-            print::number(low);
-            print::last(high);
-        }
-    }
+// Low and high.
+pub fn pair(low: u64, high: u64) {
+    print::number(low);
+    print::last(high);
 }

@@ -17,13 +17,13 @@ a-number nan x k h = absurd h
 a-number (inf s) x k h = tt
 a-number (fin s m e) x k h = tt
 
-float-to-bits-t19 : tie.Need-float-to-bits-t19
-float-to-bits-t19 c =
+float-to-bits-pair : tie.Need-float-to-bits-pair
+float-to-bits-pair c =
     let r = c .before .before .chart2 .given in
     a-number (r .0 .0 .low) _ _ (subst (Exact-chart _ _) (r .1) (c .before .before .before .before .before .before .chart .ensures .1 .0) .0)
 
-float-to-bits-t20 : tie.Need-float-to-bits-t20
-float-to-bits-t20 c =
+float-to-bits-pair-2 : tie.Need-float-to-bits-pair-2
+float-to-bits-pair-2 c =
     let r = c .before .before .before .chart2 .given in
     a-number (r .0 .0 .high) _ _ (subst (Exact-chart _ _) (r .1) (c .before .before .before .before .before .before .before .chart .ensures .1 .0) .1)
 
@@ -39,10 +39,12 @@ chart-spec =
     (λ c. search needs)
     (λ c κs. search needs)
     (λ c. search needs)
-    float-to-bits-t19
-    float-to-bits-t20
+    float-to-bits-pair
+    float-to-bits-pair-2
+    (λ c κs. search needs)
     (λ c. search needs)
     (λ c. search needs)
+    (λ c κs. search needs)
     (λ c. search needs)
     (λ c. search needs)
     (λ c. search needs)
