@@ -8,7 +8,7 @@ use sheet::Tallied;
 ghost use mathlib.Core.Path.{_≡_};
 ghost use Prim.Native.Nat.{_+_, _*_, _≤_};
 ghost use lib.ListN.{length};
-ghost use Rattle.command.specs.Printed.{longest-reply, reply-line, refusal, done-printed, look-printed, tally-printed};
+ghost use Rattle.command.specs.Printed.{longest-reply, state-word, reply-line, refusal, done-printed, look-printed, tally-printed};
 ghost use Rattle.command.specs.Written.{written};
 
 // The most bytes that a reply has.
@@ -47,6 +47,19 @@ pub fn put_done(out: &mut [u8], done: Done) -> usize
     }
 }
 
+// The state's word, and the numbers.
+fn put_shown(out: &mut [u8], answer: Answer, numbers: &[u32]) -> usize
+    requires { ⌜ (longest-reply ≤ length (now out)) × (length (now numbers) ≡ 4) ⌝ }
+    ensures { λ r. ⌜ r ≡ length (reply-line (state-word answer) (now (numbers .entry))) ⌝ }
+    ensures { λ _. ⌜ now (out .exit) ≡ written (now (out .entry)) 0 (reply-line (state-word answer) (now (numbers .entry))) ⌝ }
+{
+    match answer {
+        Answer::GoOn => put_line(out, b"undecided", numbers),
+        Answer::Accept => put_line(out, b"accepted", numbers),
+        Answer::Reject => put_line(out, b"rejected", numbers),
+    }
+}
+
 pub fn put_look(out: &mut [u8], looked: Looked) -> usize
     requires { ⌜ longest-reply ≤ length (now out) ⌝ }
     ensures { λ r. ⌜ r ≡ length (look-printed looked) ⌝ }
@@ -57,11 +70,7 @@ pub fn put_look(out: &mut [u8], looked: Looked) -> usize
         Looked::Shown(s) => {
             let numbers = [s.units, s.good, s.marginal, s.bad];
             let answer = s.answer;
-            match answer {
-                Answer::GoOn => put_line(out, b"undecided", &numbers),
-                Answer::Accept => put_line(out, b"accepted", &numbers),
-                Answer::Reject => put_line(out, b"rejected", &numbers),
-            }
+            put_shown(out, answer, &numbers)
         }
     }
 }

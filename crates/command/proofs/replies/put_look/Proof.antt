@@ -7,13 +7,7 @@ returns : tie.Need-returns
 returns c = rw (c .before .before .before .before .before .looked .given .1) (c .before .before .put-refusal .ensures)
 
 returns-2 : tie.Need-returns-2
-returns-2 c = rw (c .before .before .before .before .before .before .before .before .before .looked2 .given .1, c .before .before .before .before .before .before .enum-told .given .1) (c .before .before .put-line .ensures)
-
-returns-3 : tie.Need-returns-3
-returns-3 c = rw (c .before .before .before .before .before .before .before .before .before .looked2 .given .1, c .before .before .before .before .before .before .enum-told2 .given .1) (c .before .before .put-line2 .ensures)
-
-returns-4 : tie.Need-returns-4
-returns-4 c = rw (c .before .before .before .before .before .before .before .before .before .looked2 .given .1, c .before .before .before .before .before .before .enum-told3 .given .1) (c .before .before .put-line3 .ensures)
+returns-2 c = rw (c .before .before .before .before .before .before .looked2 .given .1) (c .before .before .put-shown .ensures)
 
 pub put-look-spec : {M : Type 1} → statement M
 put-look-spec =
@@ -23,22 +17,8 @@ put-look-spec =
     (λ c κs. search needs)
     (λ c. search needs)
     (λ c. search needs)
-    (λ c. search needs)
-    (λ c. search needs)
-    (λ c κs. search needs)
-    (λ c. search needs)
-    (λ c. search needs)
-    (λ c. search needs)
-    (λ c κs. search needs)
-    (λ c. search needs)
-    (λ c. search needs)
-    (λ c. search needs)
     (λ c κs. search needs)
     (λ c. search needs)
     returns
     (λ c. search needs)
-    returns-2
-    (λ c. search needs)
-    returns-3
-    (λ c. search needs)
-    returns-4)
+    returns-2)
