@@ -7,34 +7,6 @@
 //!   profiler; SUBJECT is a beginning of a line of the table.
 //! - `bench plain-lots` is the program lots by plain/.
 
-// The reference's modules are used in part.
-#![allow(dead_code)]
-
-#[path = "../tests/reference/answers.rs"]
-mod answers;
-#[path = "../tests/differential/built.rs"]
-mod built;
-#[path = "../tests/reference/chance.rs"]
-mod chance;
-#[path = "../tests/reference/draw.rs"]
-mod draw;
-#[path = "../tests/reference/earliest.rs"]
-mod earliest;
-#[path = "../tests/reference/edges.rs"]
-mod edges;
-#[path = "../bindings/rust/haqothwe.rs"]
-mod haqothwe;
-#[path = "../tests/reference/judge.rs"]
-mod judge;
-#[path = "../tests/reference/plan.rs"]
-mod plan;
-#[path = "../tests/reference/random.rs"]
-mod random;
-#[path = "../tests/reference/sheet.rs"]
-mod sheet;
-#[path = "../tests/differential/sheet_call.rs"]
-mod sheet_call;
-
 mod plain;
 mod programs;
 mod sides;
@@ -44,6 +16,8 @@ mod timing;
 
 use std::process::ExitCode;
 
+const USAGE: &str = "usage: bench LOTS REFERENCE | profile SUBJECT SIDE TIMES | plain-lots";
+
 fn main() -> ExitCode {
     let words: Vec<String> = std::env::args().skip(1).collect();
     let words: Vec<&str> = words.iter().map(String::as_str).collect();
@@ -51,7 +25,7 @@ fn main() -> ExitCode {
         ["plain-lots"] => plain::lots::run().map_err(|error| error.to_string()),
         ["profile", subject, side, times] => profile(subject, side, times),
         [lots, reference] => all(lots, reference),
-        _ => Err("usage: bench LOTS REFERENCE | profile SUBJECT SIDE TIMES | plain-lots".to_string()),
+        _ => Err(USAGE.to_string()),
     };
     match done {
         Ok(()) => ExitCode::SUCCESS,

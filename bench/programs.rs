@@ -1,8 +1,8 @@
 //! The program lots and its two counterparts on one script, timed as processes.
 
-use crate::edges::ONE;
-use crate::random::Random;
 use crate::timing::Times;
+use reference::generators::hand_written::ONE;
+use reference::generators::random::Random;
 use std::fmt::Write as _;
 use std::io::{self, Write};
 use std::process::{Command, Stdio};

@@ -1,11 +1,11 @@
 //! The three implementations behind one interface.
 
-use crate::answers::{Answerer, Call};
-use crate::haqothwe::{self, Reply};
 use crate::plain;
-use crate::sheet::{Plans, Sheet};
-use crate::sheet_call::SheetCall;
 use crate::subjects::Work;
+use haqothwe::Reply;
+use reference::model::plan_calls::{ChanceCall, PlanCalls};
+use reference::model::sheet::Sheet;
+use reference::model::sheet_call::SheetCall;
 
 /// The number and the values of a call. A fixed array, so that a timed call
 /// allocates nothing for it.
@@ -24,13 +24,7 @@ pub fn all() -> [Box<dyn Side>; 3] {
     [
         Box::new(Ours(Memory::new())),
         Box::new(Plain(Memory::new())),
-        Box::new(Reference {
-            sheet: Sheet {
-                words: vec![],
-                plans: Plans::default(),
-            },
-            answerer: Answerer::new(),
-        }),
+        Box::new(Reference::default()),
     ]
 }
 
@@ -181,9 +175,10 @@ fn plain_call(words: &mut [u32], call: &SheetCall) -> Answer {
 
 /// It keeps the table of the verdicts of a plan between calls, which the other
 /// two do not.
+#[derive(Default)]
 struct Reference {
     sheet: Sheet,
-    answerer: Answerer,
+    calls: PlanCalls,
 }
 
 impl Side for Reference {
@@ -193,19 +188,18 @@ impl Side for Reference {
 
     fn run(&mut self, work: &Work) -> Answer {
         match work {
-            Work::Judge { plan, list } => answer(self.answerer.judged(list, plan).map(|it| {
-                let stops = it.stops.map(|stop| stop.unwrap_or((0, 0)));
-                let [a, b, c, d] = stops.map(|(units, state)| (units as u64, u64::from(state)));
-                [a.0, a.1, b.0, b.1, c.0, c.1, d.0, d.1, u64::from(it.event)]
-            })),
-            Work::Chance { plan, weights } => answer(self.answerer.bounds(&Call {
+            Work::Judge { plan, list } => {
+                let reply = self.calls.judge(list, plan);
+                answer(reply.map(|judgement| judgement.numbers()))
+            }
+            Work::Chance { plan, weights } => answer(self.calls.chance(&ChanceCall {
                 weights: *weights,
                 scratch: haqothwe::SCRATCH_MOST as u32,
                 words: plan.clone(),
             })),
             Work::Sheet { call, .. } => {
                 let mut values = [0; 9];
-                match call.by_reference(&mut self.sheet) {
+                match call.make(&mut self.sheet) {
                     Err(number) => (number, values),
                     Ok(found) => {
                         values[..found.len()].copy_from_slice(&found);

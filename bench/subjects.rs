@@ -1,13 +1,13 @@
 //! What is timed.
 
-use crate::built::{self, Fill};
-use crate::chance::Weights;
-use crate::draw;
-use crate::earliest::Table;
-use crate::edges::{LARGEST, ONE, SEVEN};
-use crate::plan::Plan;
-use crate::random::Random;
-use crate::sheet_call::SheetCall;
+use reference::generators::draw;
+use reference::generators::full_sheets::{self, Fill};
+use reference::generators::hand_written::{LARGEST, ONE, SEVEN};
+use reference::generators::random::Random;
+use reference::model::chance::Weights;
+use reference::model::earliest::Table;
+use reference::model::plan::Plan;
+use reference::model::sheet_call::SheetCall;
 use std::rc::Rc;
 
 pub enum Work {
@@ -115,7 +115,7 @@ fn calls(all: &mut Vec<Subject>, random: &mut Random, length: usize, text: &str)
         unused: length / 400,
         shuffled: false,
     };
-    let built = built::sheet(random, length, ONE, &fill);
+    let built = full_sheets::sheet(random, length, ONE, &fill);
     let before = Rc::new(built.words);
     let (decided, undecided) = two_lots(&before, &built.lots);
     let absent = (1..).find(|lot| !built.lots.contains(&(undecided + lot)));
@@ -165,7 +165,7 @@ fn other_sheets(all: &mut Vec<Subject>, random: &mut Random) {
             unused: 160,
             shuffled,
         };
-        let built = built::sheet(random, 65_536, plan, &fill);
+        let built = full_sheets::sheet(random, 65_536, plan, &fill);
         let lot = built.lots[built.lots.len() / 2];
         all.push(Subject {
             name: format!("look, 65,536 words, {name}"),

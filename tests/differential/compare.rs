@@ -1,43 +1,39 @@
 //! One call by the library and by the reference, compared; and how many of them.
 
-use crate::answers::{Answerer, Call, Reply};
-use crate::chance::{self, Weights};
-use crate::judge::Judgement;
 use crate::library::{self, Answer, Lent, PATTERN, PATTERN_64};
-use crate::plan::Plan;
-use crate::sheet::{Plans, Sheet};
-use crate::sheet_call::SheetCall;
+use reference::model::chance::{self, Bounds, Weights};
+use reference::model::plan::Plan;
+use reference::model::plan_calls::{ChanceCall, PlanCalls};
+use reference::model::sheet::Sheet;
+use reference::model::sheet_call::SheetCall;
+use reference::model::Reply;
 use std::collections::BTreeMap;
 
 /// An error is a difference.
 pub type Compared = Result<(), String>;
 
+/// Chance or chart by the library.
+type Call = fn(&[u32], Weights, &mut Lent<u64>) -> Answer;
+
+#[derive(Default)]
 pub struct Comparer {
     /// The reference's sheet. The library gets a copy for each call.
     pub sheet: Sheet,
-    answerer: Answerer,
+    calls: PlanCalls,
     counts: BTreeMap<(&'static str, u32), u64>,
 }
 
 impl Comparer {
-    pub fn new() -> Comparer {
-        Comparer {
-            sheet: empty(),
-            answerer: Answerer::new(),
-            counts: BTreeMap::new(),
-        }
-    }
-
     /// Another sheet. The tables kept for earlier plans go, since they are large.
     pub fn new_sheet(&mut self, words: Vec<u32>) {
-        self.sheet = Sheet { words, ..empty() };
+        self.sheet = Sheet::new(words);
     }
 
     pub fn on_sheet(&mut self, call: &SheetCall) -> Compared {
         let before = self.sheet.words.clone();
         let mut lent = Lent::new(&before, PATTERN);
         let answer = library::on_sheet(call, &mut lent);
-        let reply = call.by_reference(&mut self.sheet);
+        let reply = call.make(&mut self.sheet);
         let what = || format!("{call:?} on {}", text(&before));
         self.same(call.name(), &answer, reply, what)?;
         if lent.run() != self.sheet.words || !lent.kept_beyond(lent.run().len()) {
@@ -47,8 +43,8 @@ impl Comparer {
     }
 
     pub fn judge(&mut self, plan: &[u32], list: &[u8]) -> Compared {
-        let reply = self.answerer.judged(list, plan);
-        let reply = reply.map(|judgement| judged(&judgement));
+        let reply = self.calls.judge(list, plan);
+        let reply = reply.map(|judgement| judgement.numbers().to_vec());
         let answer = library::judge(plan, list);
         let what = || format!("judge {plan:?} {}", text(list));
         self.same("judge", &answer, reply, what)
@@ -56,37 +52,26 @@ impl Comparer {
 
     /// Chance and chart, with a scratch of so many words.
     pub fn chance(&mut self, plan: &[u32], weights: Weights, scratch: usize) -> Compared {
-        let bounds = self.answerer.bounds(&Call {
+        let bounds = self.calls.chance(&ChanceCall {
             weights,
             scratch: scratch as u32,
             words: plan.to_vec(),
         });
-        for (function, call) in [
-            (
-                "chance",
-                library::chance as fn(&[u32], Weights, &mut Lent<u64>) -> Answer,
-            ),
-            ("chart", library::chart),
-        ] {
+        let chances: [(_, Call, fn(Bounds) -> Bounds); 2] = [
+            ("chance", library::chance, |bounds| bounds),
+            ("chart", library::chart, chance::chart),
+        ];
+        for (function, call, values) in chances {
             let words: Vec<u64> = (0..scratch as u64).map(|i| PATTERN_64 ^ i).collect();
             let mut lent = Lent::new(&words, PATTERN_64);
             let answer = call(plan, weights, &mut lent);
             let what = || format!("{function} {plan:?} {weights:?}, scratch {scratch}");
-            let values = |bounds| {
-                if function == "chart" {
-                    chance::chart(bounds)
-                } else {
-                    bounds
-                }
-            };
             let reply = bounds.map(|bounds| values(bounds).to_vec());
             self.same(function, &answer, reply, what)?;
             let free = bounds.map_or(0, |_| needed(plan));
             if !lent.kept_beyond(free) {
-                return Err(format!(
-                    "{}: scratch words beyond {free} were written",
-                    what()
-                ));
+                let what = what();
+                return Err(format!("{what}: scratch words beyond {free} were written"));
             }
         }
         Ok(())
@@ -131,22 +116,9 @@ impl Comparer {
     }
 }
 
-fn empty() -> Sheet {
-    Sheet {
-        words: Vec::new(),
-        plans: Plans::default(),
-    }
-}
-
 /// Words of scratch that an admitted plan needs.
 pub fn needed(plan: &[u32]) -> usize {
     Plan::admitted(plan).map_or(0, |plan| chance::needed(&plan) as usize)
-}
-
-fn judged(judgement: &Judgement) -> Vec<u64> {
-    let stops = judgement.stops.map(|stop| stop.unwrap_or((0, 0)));
-    let numbers = stops.map(|(units, state)| [units as u64, u64::from(state)]);
-    [numbers.as_flattened(), &[u64::from(judgement.event)]].concat()
 }
 
 /// The elements of a short run, the length of a long one.

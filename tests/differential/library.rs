@@ -2,9 +2,9 @@
 //! are declared here with plain pointers, since `out` has margins too; the
 //! declarations of bindings/rust are run by its example.
 
-use crate::sheet_call::SheetCall;
+use reference::model::chance::Weights;
+use reference::model::sheet_call::SheetCall;
 
-#[rustfmt::skip]
 extern "C" {
     fn haq_fresh(sheet: *mut u32, n: usize, plan: *const u32, plan_n: usize) -> u32;
     fn haq_open(sheet: *mut u32, n: usize, lot: u32) -> u32;
@@ -15,8 +15,26 @@ extern "C" {
     fn haq_tally(sheet: *const u32, n: usize, out: *mut u32) -> u32;
     fn haq_estimate(sheet: *const u32, n: usize, lot: u32, out: *mut u64) -> u32;
     fn haq_judge(plan: *const u32, plan_n: usize, list: *const u8, n: usize, out: *mut u32) -> u32;
-    fn haq_chance(plan: *const u32, plan_n: usize, w0: u32, w1: u32, w2: u32, scratch: *mut u64, n: usize, out: *mut u64) -> u32;
-    fn haq_chart(plan: *const u32, plan_n: usize, w0: u32, w1: u32, w2: u32, scratch: *mut u64, n: usize, out: *mut f64) -> u32;
+    fn haq_chance(
+        plan: *const u32,
+        plan_n: usize,
+        w0: u32,
+        w1: u32,
+        w2: u32,
+        scratch: *mut u64,
+        n: usize,
+        out: *mut u64,
+    ) -> u32;
+    fn haq_chart(
+        plan: *const u32,
+        plan_n: usize,
+        w0: u32,
+        w1: u32,
+        w2: u32,
+        scratch: *mut u64,
+        n: usize,
+        out: *mut f64,
+    ) -> u32;
 }
 
 /// Elements before and after a run.
@@ -127,7 +145,7 @@ pub fn judge(plan: &[u32], list: &[u8]) -> Answer {
     answer
 }
 
-pub fn chance(plan: &[u32], [w0, w1, w2]: [u32; 3], scratch: &mut Lent<u64>) -> Answer {
+pub fn chance(plan: &[u32], [w0, w1, w2]: Weights, scratch: &mut Lent<u64>) -> Answer {
     let mut plan = Lent::new(plan, PATTERN);
     let (words, k, n) = (plan.pointer(), plan.len(), scratch.len());
     let lent = scratch.pointer();
@@ -139,7 +157,7 @@ pub fn chance(plan: &[u32], [w0, w1, w2]: [u32; 3], scratch: &mut Lent<u64>) -> 
 }
 
 /// The floats' bit patterns.
-pub fn chart(plan: &[u32], [w0, w1, w2]: [u32; 3], scratch: &mut Lent<u64>) -> Answer {
+pub fn chart(plan: &[u32], [w0, w1, w2]: Weights, scratch: &mut Lent<u64>) -> Answer {
     let mut plan = Lent::new(plan, PATTERN);
     let (words, k, n) = (plan.pointer(), plan.len(), scratch.len());
     let lent = scratch.pointer();

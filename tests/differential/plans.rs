@@ -1,15 +1,19 @@
 //! Plans, lists and weights: judge, chance, chart, and fresh with each plan.
 
-use crate::answers::Case;
-use crate::cases;
 use crate::compare::{needed, Compared, Comparer};
-use crate::draw;
-use crate::earliest::Table;
-use crate::edges::{self, A, B, LARGEST, ONE, SEVEN, THREE, TWO, WEIGHTS, WRAPS};
 use crate::library::PATTERN;
-use crate::plan::Plan;
-use crate::random::Random;
-use crate::sheet_call::SheetCall;
+use reference::generators::hand_written::{
+    runs, A, B, LARGEST, ONE, SEVEN, THREE, TWO, WEIGHTS, WRAPS,
+};
+use reference::generators::plan_edges::edges;
+use reference::generators::random::Random;
+use reference::generators::{draw, plan_cases};
+use reference::lines::plan_lines::Case;
+use reference::model::chance::MOST_SCRATCH;
+use reference::model::earliest::Table;
+use reference::model::layout::{LEAST_WORDS, MOST_WORDS};
+use reference::model::plan::Plan;
+use reference::model::sheet_call::SheetCall;
 
 const SEED: u64 = 40_100_000;
 
@@ -25,7 +29,7 @@ pub fn all(comparer: &mut Comparer) -> Compared {
 
 /// The cases that crates/vectors answers.
 fn stored_cases(comparer: &mut Comparer) -> Compared {
-    for line in cases::all() {
+    for line in plan_cases::all() {
         match Case::parse(&line)? {
             Case::Admission(words) => plan(comparer, &words)?,
             Case::Judged(list, words) => comparer.judge(&words, &list)?,
@@ -44,25 +48,25 @@ fn plan(comparer: &mut Comparer, words: &[u32]) -> Compared {
     comparer.judge(words, &[])?;
     comparer.judge(words, &[0, 1, 2, 0, 0])?;
     comparer.judge(words, &[0, 3])?;
-    for length in [47, 48, 51] {
+    for length in [LEAST_WORDS - 1, LEAST_WORDS, LEAST_WORDS + 3] {
         comparer.new_sheet(vec![PATTERN; length]);
         comparer.on_sheet(&SheetCall::Fresh(words.to_vec()))?;
         comparer.on_sheet(&SheetCall::Tally)?;
     }
     if Plan::admitted(words).is_none() {
-        comparer.chance(words, [1, 1, 1], 7_200)?;
+        comparer.chance(words, [1, 1, 1], MOST_SCRATCH as usize)?;
         comparer.chance(words, [0, 0, 0], 0)?;
     }
     Ok(())
 }
 
 fn hand_written(comparer: &mut Comparer) -> Compared {
-    for edge in edges::edges() {
+    for edge in edges() {
         plan(comparer, &edge.kept())?;
         plan(comparer, &edge.broken())?;
     }
     let wraps = WRAPS.iter().map(|words| words.to_vec());
-    edges::runs()
+    runs()
         .into_iter()
         .chain(wraps)
         .try_for_each(|words| plan(comparer, &words))
@@ -79,7 +83,7 @@ const VALUES: &[u32] = &[
     999,
     1_000,
     1_001,
-    65_536,
+    MOST_WORDS as u32,
     0x7FFF_FFFF,
     0x8000_0000,
     0xFFFF_FFFE,
@@ -190,7 +194,8 @@ fn weights_and_scratch(comparer: &mut Comparer, random: &mut Random) -> Compared
                 random.pick(&[0, exact / 2, exact - 1, exact, exact, exact + 1, exact + 50]);
             comparer.chance(&words, weights, scratch)?;
         }
-        for scratch in [0, 1, exact - 1, exact, exact + 1, 7_200, 7_201] {
+        let most = MOST_SCRATCH as usize;
+        for scratch in [0, 1, exact - 1, exact, exact + 1, most, most + 1] {
             let weights = draw::weights(random, &plan);
             comparer.chance(&words, weights, scratch)?;
         }

@@ -1,13 +1,13 @@
 //! Calls on sheets of all sizes: valid ones, damaged ones and any words.
 
-use crate::built::{self, Fill};
 use crate::compare::{Compared, Comparer};
-use crate::draw;
-use crate::edges::{A, B, ONE, SEVEN, TWO};
-use crate::random::Random;
-use crate::sheet_answers::Run;
-use crate::sheet_call::SheetCall;
-use crate::sheet_cases::{self, random_call, SINGLE};
+use reference::generators::full_sheets::{self, Fill};
+use reference::generators::hand_written::{A, B, ONE, SEVEN, TWO, UNIT};
+use reference::generators::random::Random;
+use reference::generators::{draw, sheet_cases};
+use reference::lines::sheet_lines::Command;
+use reference::model::layout::*;
+use reference::model::sheet_call::SheetCall;
 
 const SEED: u64 = 65_537_047;
 
@@ -22,37 +22,13 @@ pub fn all(comparer: &mut Comparer) -> Compared {
 
 /// The command lines that crates/sheetvectors answers.
 fn stored_cases(comparer: &mut Comparer) -> Compared {
-    let mut run = Run::new();
     for line in sheet_cases::all() {
-        match call(&line) {
-            Some(call) => comparer.on_sheet(&call)?,
-            None => {
-                // The command writes words: Run does it on the same sheet.
-                std::mem::swap(&mut run.sheet, &mut comparer.sheet);
-                run.answer(&line)?;
-                std::mem::swap(&mut run.sheet, &mut comparer.sheet);
-            }
+        match Command::parse(&line)? {
+            Command::Call(call) => comparer.on_sheet(&call)?,
+            Command::Write(write) => write.make(&mut comparer.sheet.words),
         }
     }
     Ok(())
-}
-
-/// The call of a command line; None if it is a command that writes words.
-fn call(line: &str) -> Option<SheetCall> {
-    let mut fields = line.split(' ');
-    let kind = fields.next()?;
-    let numbers: Vec<u32> = fields.filter_map(|field| field.parse().ok()).collect();
-    match (kind, &numbers[..]) {
-        ("f", plan) => Some(SheetCall::Fresh(plan.to_vec())),
-        ("o", &[lot]) => Some(SheetCall::Open(lot)),
-        ("i", &[lot, class]) => Some(SheetCall::Inspect(lot, class)),
-        ("s", &[lot]) => Some(SheetCall::Strike(lot)),
-        ("c", &[lot]) => Some(SheetCall::Close(lot)),
-        ("l", &[lot]) => Some(SheetCall::Look(lot)),
-        ("t", []) => Some(SheetCall::Tally),
-        ("e", &[lot]) => Some(SheetCall::Estimate(lot)),
-        _ => None,
-    }
 }
 
 /// Each call on a lot, the reading ones first.
@@ -89,11 +65,10 @@ fn any_words(random: &mut Random, length: usize, most: u32) -> Vec<u32> {
 }
 
 fn sizes(comparer: &mut Comparer, random: &mut Random) -> Compared {
-    let sizes = [
-        0, 1, 2, 4, 43, 44, 47, 48, 49, 50, 51, 52, 63, 64, 65_532, 65_535, 65_536, 65_537, 65_540,
-        131_072,
-    ];
-    for length in sizes {
+    let head = [HEAD - 1, HEAD, LEAST_WORDS - 1];
+    let least = [0, 1, 2, 3, 4, 15, 16].map(|more| LEAST_WORDS + more);
+    let most = [-4, -1, 0, 1, 4].map(|more| MOST_WORDS.wrapping_add_signed(more));
+    for length in [&[0, 1, 2, 4], &head[..], &least, &most, &[2 * MOST_WORDS]].concat() {
         for most in [0, 3, 20, u32::MAX] {
             comparer.new_sheet(any_words(random, length, most));
             each_call(comparer, 1, 0)?;
@@ -111,44 +86,56 @@ fn sizes(comparer: &mut Comparer, random: &mut Random) -> Compared {
 /// A sound head over few records of small words, which form chains now and then.
 fn any_records(comparer: &mut Comparer, random: &mut Random) -> Compared {
     for round in 0..6_000 {
-        let length = random.pick(&[48, 52, 55, 56, 64]);
+        let length = random.pick(&[room(1), room(2), room(2) + 3, room(3), room(5)]);
         comparer.new_sheet(any_words(random, length, 2));
-        comparer.on_sheet(&SheetCall::Fresh(SINGLE.to_vec()))?;
+        comparer.on_sheet(&SheetCall::Fresh(UNIT.to_vec()))?;
         let words = &mut comparer.sheet.words;
-        words[0] = random.between(11, 13);
-        for word in &mut words[1..3] {
-            *word = random.pick(&[0, 0, 11, 12]);
-        }
-        for at in 44..length {
-            let next = random.pick(&[0, 0, 11, 12]);
-            let tag = random.pick(&[0, 0, 1, u32::MAX]);
-            words[at] = [random.between(0, 3), next, next, tag][at % 4];
+        let indices = [0, 0, FIRST_RECORD, FIRST_RECORD + 1];
+        words[NEXT_UNUSED] = random.between(FIRST_RECORD, FIRST_RECORD + 2);
+        words[FIRST_LOT] = random.pick(&indices);
+        words[FIRST_FREE] = random.pick(&indices);
+        for at in HEAD..length {
+            let next = random.pick(&indices);
+            let tag = random.pick(&[0, 0, 1, FREE]);
+            words[at] = [random.between(0, 3), next, next, tag][at % RECORD_WORDS];
         }
         each_call_apart(comparer, 1 + round % 3, round % 4)?;
     }
     Ok(())
 }
 
+/// Lengths of small sheets, some with words after the last whole record.
+const LENGTHS: [usize; 10] = [
+    room(1),
+    room(2),
+    room(4),
+    room(5) + 3,
+    room(11),
+    room(14) + 1,
+    room(21) + 2,
+    room(33) + 2,
+    room(49),
+    room(88) + 3,
+];
+
 /// Random calls on small sheets, with a word damaged now and then.
 fn plays(comparer: &mut Comparer, random: &mut Random) -> Compared {
     for round in 0..220 {
         let units = random.between(1, 14);
         let plan = match round % 8 {
-            0 => [A, B, ONE, TWO, SINGLE][round / 8 % 5].to_vec(),
+            0 => [A, B, ONE, TWO, UNIT][round / 8 % 5].to_vec(),
             _ => draw::plan(random, 1 + round % 7, units),
         };
-        let length = random.pick(&[48, 52, 60, 67, 88, 101, 130, 178, 240, 399]);
+        let length = random.pick(&LENGTHS);
         comparer.new_sheet(any_words(random, length, u32::MAX));
         comparer.on_sheet(&SheetCall::Fresh(plan))?;
         if round % 10 == 9 {
             // Accepted lots, so that few may be closed: 12.
-            comparer.sheet.words[39] = random.between(3_999_996, 4_000_000);
+            comparer.sheet.words[CLOSED_LOTS] = random.between(MOST_CLOSED - 4, MOST_CLOSED);
         }
         let mix = random.pick(&[[1, 1, 1], [8, 1, 1], [2, 1, 0], [1, 0, 3], [1, 3, 1]]);
         for turn in 0..120 {
-            let line = random_call(random, mix);
-            let call = call(&line).expect("the line is a call");
-            comparer.on_sheet(&call)?;
+            comparer.on_sheet(&draw::sheet_call(random, mix))?;
             if turn % 5 == 0 {
                 damaged(comparer, random)?;
             }
@@ -160,16 +147,17 @@ fn plays(comparer: &mut Comparer, random: &mut Random) -> Compared {
 /// Each call on the sheet with one word damaged, which is then undone.
 fn damaged(comparer: &mut Comparer, random: &mut Random) -> Compared {
     let words = &mut comparer.sheet.words;
-    let in_use = words.len().min(words[0] as usize * 4);
+    let in_use = words.len().min(place(words[NEXT_UNUSED], 0));
     let index = match random.index(4) {
-        0 => random.index(4),
+        0 => random.index(STAGES),
         1 => random.index(words.len()),
         _ => random.index(in_use),
     };
-    let (own, used) = (words[index], words[0]);
+    let (own, used) = (words[index], words[NEXT_UNUSED]);
     let other = words[random.index(in_use)];
     let near = [own.wrapping_add(1), own.wrapping_sub(1), own ^ 2];
-    let far = [0, 10, 11, used, used - 1, 0x4000_0000, u32::MAX];
+    let first = FIRST_RECORD;
+    let far = [0, first - 1, first, used, used - 1, 1 << 30, u32::MAX];
     words[index] = match random.index(3) {
         0 => random.pick(&near),
         1 => other,
@@ -185,12 +173,12 @@ fn damaged(comparer: &mut Comparer, random: &mut Random) -> Compared {
 /// Large sheets with many lots, some without a free or unused record.
 fn nearly_full(comparer: &mut Comparer, random: &mut Random) -> Compared {
     for (length, free, unused) in [
-        (16_384, 300, 40),
-        (65_536, 1_000, 100),
-        (65_536, 1, 0),
-        (65_535, 0, 1),
-        (65_536, 0, 0),
-        (4_099, 0, 0),
+        (PROGRAM_WORDS, 300, 40),
+        (MOST_WORDS, 1_000, 100),
+        (MOST_WORDS, 1, 0),
+        (MOST_WORDS - 1, 0, 1),
+        (MOST_WORDS, 0, 0),
+        (room(1013) + 3, 0, 0),
     ] {
         for (plan, shuffled) in [(A, false), (SEVEN, true)] {
             let fill = Fill {
@@ -198,7 +186,7 @@ fn nearly_full(comparer: &mut Comparer, random: &mut Random) -> Compared {
                 unused,
                 shuffled,
             };
-            let built = built::sheet(random, length, plan, &fill);
+            let built = full_sheets::sheet(random, length, plan, &fill);
             comparer.new_sheet(built.words);
             for _ in 0..12 {
                 let lot = random.pick(&built.lots);

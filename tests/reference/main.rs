@@ -1,7 +1,4 @@
-//! A second implementation of 01, the scope document, that shares no code with
-//! the library: the test oracle. Built from the repository's root by
-//!
-//!     rustc -O --edition 2021 -o target/reference tests/reference/main.rs
+//! The reference as a program. tests/reference/build builds it.
 //!
 //! - `reference cases` writes the seeded cases on stdout, the same at each run.
 //! - `reference answers` reads case lines on stdin and writes one answer line each.
@@ -9,44 +6,31 @@
 //! - `reference lots-script` writes a script for the program `lots`, and
 //!   `reference lots` answers a script on stdin.
 //! - `reference stats` says on stderr what the seeded cases cover.
-//! - `reference selftest` checks this program itself.
-//!
-//! A new kind of case needs a variant in answers.rs and its lines in cases.rs.
+//! - `reference selftest` checks the reference itself.
 
-mod answers;
-mod cases;
-mod chance;
-mod draw;
-mod earliest;
-mod edges;
-mod judge;
-mod lots;
-mod lots_script;
-mod plan;
-mod published;
-mod random;
-mod selftest;
-mod sheet;
-mod sheet_answers;
-mod sheet_cases;
-mod sheet_damage;
-mod sheet_histories;
-mod stats;
-
+use reference::checks::{selftest, stats};
+use reference::generators::{lots_script, plan_cases, sheet_cases};
+use reference::lines::{plan_lines, sheet_lines};
+use reference::model::lots;
+use reference::model::plan_calls::PlanCalls;
+use reference::model::sheet::Sheet;
 use std::io::{self, BufRead, BufWriter, Read, Write};
 use std::process::ExitCode;
 
+const USAGE: &str =
+    "usage: reference [sheet-]cases | [sheet-]answers | lots-script | lots | stats | selftest";
+
 fn main() -> ExitCode {
     let done = match std::env::args().nth(1).as_deref() {
-        Some("cases") => write_cases(),
-        Some("answers") => write_answers(),
+        Some("cases") => write_lines(plan_cases::all().into_iter().map(Ok)),
+        Some("answers") => write_answers(PlanCalls::default(), plan_lines::answer),
         Some("sheet-cases") => write_lines(sheet_cases::all().into_iter().map(Ok)),
-        Some("sheet-answers") => write_sheet_answers(),
+        Some("sheet-answers") => write_answers(Sheet::default(), sheet_lines::answer),
         Some("lots-script") => write_bytes(&lots_script::all()),
         Some("lots") => write_lots(),
         Some("stats") => stats::write(),
-        Some("selftest") => selftest::run().and_then(|()| sheet_histories::selftest()),
-        _ => Err("usage: reference [sheet-]cases | [sheet-]answers | lots-script | lots | stats | selftest".to_string()),
+        Some("selftest") => selftest(),
+        _ => Err(USAGE.to_string()),
     };
     match done {
         Ok(()) => ExitCode::SUCCESS,
@@ -57,23 +41,13 @@ fn main() -> ExitCode {
     }
 }
 
-fn write_cases() -> Result<(), String> {
-    write_lines(cases::all().into_iter().map(Ok))
-}
+type Text = Result<String, String>;
 
-fn write_answers() -> Result<(), String> {
-    let mut answerer = answers::Answerer::new();
+/// The answers to the lines of stdin. What is kept between lines starts as given.
+fn write_answers<T>(mut kept: T, answer: fn(&mut T, &str) -> Text) -> Result<(), String> {
     write_lines(io::stdin().lock().lines().map(|line| {
         let line = line.map_err(|error| error.to_string())?;
-        answerer.answer(&line)
-    }))
-}
-
-fn write_sheet_answers() -> Result<(), String> {
-    let mut run = sheet_answers::Run::new();
-    write_lines(io::stdin().lock().lines().map(|line| {
-        let line = line.map_err(|error| error.to_string())?;
-        run.answer(&line)
+        answer(&mut kept, &line)
     }))
 }
 
@@ -85,11 +59,12 @@ fn write_lots() -> Result<(), String> {
 }
 
 fn write_bytes(bytes: &[u8]) -> Result<(), String> {
-    io::stdout().write_all(bytes).map_err(|error| error.to_string())
+    let written = io::stdout().write_all(bytes);
+    written.map_err(|error| error.to_string())
 }
 
 /// Writes lines up to the first error, so that what was answered is on stdout.
-fn write_lines(lines: impl Iterator<Item = Result<String, String>>) -> Result<(), String> {
+fn write_lines(lines: impl Iterator<Item = Text>) -> Result<(), String> {
     let mut out = BufWriter::new(io::stdout().lock());
     for line in lines {
         writeln!(out, "{}", line?).map_err(|error| error.to_string())?;

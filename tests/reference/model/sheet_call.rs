@@ -1,7 +1,7 @@
-//! A call on a sheet, and its answer by the reference.
+//! A call on a sheet as a value.
 
-use crate::answers::Reply;
-use crate::sheet::Sheet;
+use super::sheet::Sheet;
+use super::Reply;
 
 #[derive(Clone, Debug)]
 pub enum SheetCall {
@@ -29,7 +29,8 @@ impl SheetCall {
         }
     }
 
-    pub fn by_reference(&self, sheet: &mut Sheet) -> Reply<Vec<u64>> {
+    /// The values of the reply, none where it is ok.
+    pub fn make(&self, sheet: &mut Sheet) -> Reply<Vec<u64>> {
         let values = |words: Vec<u32>| words.into_iter().map(u64::from).collect();
         let done = match *self {
             SheetCall::Fresh(ref plan) => sheet.fresh(plan),

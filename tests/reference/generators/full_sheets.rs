@@ -1,13 +1,11 @@
 //! Sheets that are nearly full, written record by record: by calls they would
 //! take too long.
 
-use crate::draw;
-use crate::earliest::{by_table, Table};
-use crate::plan::{Plan, WORDS};
-use crate::random::Random;
-
-const FIRST_RECORD: usize = 11;
-const FREE: u32 = 4_294_967_295;
+use super::draw;
+use super::random::Random;
+use crate::model::earliest::{by_table, Table};
+use crate::model::layout::*;
+use crate::model::plan::{Plan, STAGE_WORDS};
 
 /// How a sheet is filled.
 pub struct Fill {
@@ -25,18 +23,17 @@ pub struct Built {
 
 /// A sheet of this many words, all records but the free and unused ones in lots.
 pub fn sheet(random: &mut Random, length: usize, plan: &[u32], fill: &Fill) -> Built {
-    let used = length / 4 - fill.unused;
-    let histories = histories(random, plan, used - FIRST_RECORD - fill.free);
-    let mut order: Vec<u32> = (FIRST_RECORD as u32..used as u32).rev().collect();
+    let used = (records(length) - fill.unused) as u32;
+    let in_lots = (used - FIRST_RECORD) as usize - fill.free;
+    let histories = histories(random, plan, in_lots);
+    let mut order: Vec<u32> = (FIRST_RECORD..used).rev().collect();
     if fill.shuffled {
-        for last in (1..order.len()).rev() {
-            order.swap(last, random.index(last + 1));
-        }
+        random.shuffle(&mut order);
     }
     let mut words = vec![0; length];
-    words[0] = used as u32;
-    words[3] = (plan.len() / WORDS) as u32;
-    words[4..4 + plan.len()].copy_from_slice(plan);
+    words[NEXT_UNUSED] = used;
+    words[K] = (plan.len() / STAGE_WORDS) as u32;
+    words[STAGES..STAGES + plan.len()].copy_from_slice(plan);
     let mut writer = Writer { words, order };
     let lots = writer.lots(random, &histories);
     writer.free_chain(fill.free);
@@ -70,26 +67,26 @@ struct Writer {
 }
 
 impl Writer {
-    fn record(&mut self, words: [u32; 4]) -> u32 {
+    fn record(&mut self, words: [u32; RECORD_WORDS]) -> u32 {
         let record = self.order.pop().expect("the records are counted");
-        let at = record as usize * 4;
-        self.words[at..at + 4].copy_from_slice(&words);
+        let at = place(record, 0);
+        self.words[at..at + RECORD_WORDS].copy_from_slice(&words);
         record
     }
 
     fn lots(&mut self, random: &mut Random, histories: &[Vec<u8>]) -> Vec<u32> {
         let mut numbers = Vec::new();
-        let (mut number, mut link) = (0, 1);
+        let (mut number, mut link) = (0, FIRST_LOT);
         for history in histories {
             number += random.between(1, 9);
             let lot = self.record([number, 0, 0, 0]);
             self.words[link] = lot;
-            link = lot as usize * 4 + 1;
+            link = place(lot, NEXT);
             let mut newest = 0;
             for (&class, serial) in history.iter().zip(1..) {
                 newest = self.record([u32::from(class), newest, lot, serial]);
             }
-            self.words[lot as usize * 4 + 2] = newest;
+            self.words[place(lot, NEWEST)] = newest;
             numbers.push(number);
         }
         numbers
@@ -97,8 +94,8 @@ impl Writer {
 
     fn free_chain(&mut self, records: usize) {
         for depth in 1..=records as u32 {
-            let next = self.words[2];
-            self.words[2] = self.record([depth, next, 0, FREE]);
+            let next = self.words[FIRST_FREE];
+            self.words[FIRST_FREE] = self.record([depth, next, 0, FREE]);
         }
     }
 }

@@ -1,33 +1,34 @@
 //! What the seeded cases cover, so that one can see that they are telling.
 
-use crate::answers::{Answerer, Call, Case};
-use crate::cases;
-use crate::chance::{Bounds, UNITS};
-use crate::earliest::{few_completions, Stop};
-use crate::judge::Judgement;
-use crate::plan::{broken, Plan};
+use crate::generators::plan_cases;
+use crate::lines::plan_lines::Case;
+use crate::model::chance::{Bounds, UNITS};
+use crate::model::earliest::{few_completions, Stop};
+use crate::model::judge::Judgement;
+use crate::model::plan::{broken, Plan, STAGE_WORDS};
+use crate::model::plan_calls::{ChanceCall, PlanCalls};
 use std::collections::BTreeMap;
 
 /// Counts by a text that says what is counted.
 type Tally = BTreeMap<String, usize>;
 
 pub fn write() -> Result<(), String> {
-    let lines = cases::all();
+    let lines = plan_cases::all();
     let bytes: usize = lines.iter().map(|line| line.len() + 1).sum();
-    let mut answerer = Answerer::new();
+    let mut calls = PlanCalls::default();
     let mut tally = Tally::new();
     for line in &lines {
         match Case::parse(line)? {
             Case::Admission(words) => admission(&mut tally, &words),
-            Case::Judged(list, words) => match answerer.judged(&list, &words) {
+            Case::Judged(list, words) => match calls.judge(&list, &words) {
                 Ok(judgement) => judged(&mut tally, &list, &words, &judgement),
                 Err(number) => count(&mut tally, format!("j: refused {number}")),
             },
-            Case::Chance(call) => match answerer.bounds(&call) {
+            Case::Chance(call) => match calls.chance(&call) {
                 Ok(bounds) => chance(&mut tally, &call, bounds),
                 Err(number) => count(&mut tally, format!("c: refused {number}")),
             },
-            Case::Chart(call) => match answerer.bounds(&call) {
+            Case::Chart(call) => match calls.chance(&call) {
                 Ok(_) => count(&mut tally, "f: floats".to_string()),
                 Err(number) => count(&mut tally, format!("f: refused {number}")),
             },
@@ -48,7 +49,10 @@ fn admission(tally: &mut Tally, words: &[u32]) {
     let mut rules = broken(words);
     rules.dedup();
     if rules.is_empty() {
-        count(tally, format!("a: admitted, k = {}", words.len() / 5));
+        count(
+            tally,
+            format!("a: admitted, k = {}", words.len() / STAGE_WORDS),
+        );
     } else {
         count(tally, "a: not admitted".to_string());
     }
@@ -105,8 +109,8 @@ fn stop(tally: &mut Tally, list: &[u8], plan: &Plan, stop: Stop) {
     }
 }
 
-fn chance(tally: &mut Tally, call: &Call, [low, high]: Bounds) {
-    count(tally, format!("c: k = {}", call.words.len() / 5));
+fn chance(tally: &mut Tally, call: &ChanceCall, [low, high]: Bounds) {
+    count(tally, format!("c: k = {}", call.words.len() / STAGE_WORDS));
     count(tally, format!("c: {} weights of 0", zeros(call)));
     let size = match high - low {
         0 => "low = high",
@@ -119,6 +123,6 @@ fn chance(tally: &mut Tally, call: &Call, [low, high]: Bounds) {
     }
 }
 
-fn zeros(call: &Call) -> usize {
+fn zeros(call: &ChanceCall) -> usize {
     call.weights.iter().filter(|&&weight| weight == 0).count()
 }

@@ -2,7 +2,9 @@
 //! each refusal that the program can give, a sheet filled and emptied, random lines,
 //! and many short lines with longer replies. The last line lacks its byte 10.
 
-use crate::random::Random;
+use super::random::Random;
+use crate::model::layout::{records, FIRST_RECORD, PROGRAM_WORDS};
+use crate::model::lots::LINE_BYTES;
 
 const LISTING: &str = "p 5 2 3 1 2\no 7\ni 7 1\ni 7 2\ni 7 2\nl 7\ni 7 0\nc 7\nt\n";
 
@@ -29,57 +31,58 @@ fn line(script: &mut Vec<u8>, text: &str) {
     script.push(10);
 }
 
+/// Lines of another form.
+const FORMS: &[&str] = &[
+    "",
+    " ",
+    "o",
+    "o ",
+    "o 1 ",
+    " o 1",
+    "o  1",
+    "o 1 2",
+    "o +1",
+    "o -1",
+    "o 1a",
+    "o a",
+    "oo 1",
+    "O 1",
+    "x 1",
+    "o\t1",
+    "o 1\r",
+    "o 1\0",
+    "\0",
+    "o 12345678901",
+    "o 4294967296",
+    "o 9999999999",
+    "o 00000000001",
+    "i",
+    "i 1",
+    "i 1 ",
+    "i 1 2 3",
+    "i 1  2",
+    "s",
+    "s 1 1",
+    "l",
+    "l 1 1",
+    "c",
+    "c 1 1",
+    "t 1",
+    "t ",
+    " t",
+    "tt",
+    "p",
+    "p ",
+    "p 5 2 3 1",
+    "p 5 2 3 1 2 5",
+    "p 5 2 3 1 2 ",
+    "p  5 2 3 1 2",
+];
+
 /// Lines of another form, among them lines at and past the length that a line may have.
 fn forms(script: &mut Vec<u8>) {
     line(script, PLAN_A);
-    for text in [
-        "",
-        " ",
-        "o",
-        "o ",
-        "o 1 ",
-        " o 1",
-        "o  1",
-        "o 1 2",
-        "o +1",
-        "o -1",
-        "o 1a",
-        "o a",
-        "oo 1",
-        "O 1",
-        "x 1",
-        "o\t1",
-        "o 1\r",
-        "o 1\0",
-        "\0",
-        "o 12345678901",
-        "o 4294967296",
-        "o 9999999999",
-        "o 00000000001",
-        "i",
-        "i 1",
-        "i 1 ",
-        "i 1 2 3",
-        "i 1  2",
-        "s",
-        "s 1 1",
-        "l",
-        "l 1 1",
-        "c",
-        "c 1 1",
-        "t 1",
-        "t ",
-        " t",
-        "tt",
-        "p",
-        "p ",
-        "p 5 2 3 1",
-        "p 5 2 3 1 2 5",
-        "p 5 2 3 1 2 ",
-        "p  5 2 3 1 2",
-    ] {
-        line(script, text);
-    }
+    FORMS.iter().for_each(|text| line(script, text));
     line(script, &format!("p{}", " 1".repeat(36)));
     line(script, &format!("p{}", " 1".repeat(40)));
     for text in [
@@ -94,13 +97,15 @@ fn forms(script: &mut Vec<u8>) {
         line(script, text);
     }
     wide_plans(script);
-    for length in [254, 255, 256, 257, 300, 4095, 4096, 4097, 70_000] {
+    let edges = [LINE_BYTES - 1, LINE_BYTES, LINE_BYTES + 1, LINE_BYTES + 2];
+    for length in [&edges[..], &[300, 4095, 4096, 4097, 70_000]].concat() {
         line(script, &"t".repeat(length));
         line(script, &" ".repeat(length));
     }
 }
 
-/// A plan of seven stages on a line of 255 bytes, which is a command, and of 256, which is not.
+/// A plan of seven stages on a line of the most bytes, which is a command, and on a
+/// line of one more, which is not.
 fn wide_plans(script: &mut Vec<u8>) {
     let plan: Vec<u32> = (0..7)
         .flat_map(|i| {
@@ -111,7 +116,7 @@ fn wide_plans(script: &mut Vec<u8>) {
             }
         })
         .collect();
-    for length in [255, 256] {
+    for length in [LINE_BYTES, LINE_BYTES + 1] {
         let mut spare = length - 1 - 35 * 7;
         let mut text = "p".to_string();
         for number in &plan {
@@ -151,22 +156,31 @@ fn refusals(script: &mut Vec<u8>) {
     }
 }
 
-/// 4,085 records: 2,042 lots with a unit each and one lot more fill the sheet.
+/// Lots with a unit each and one lot more fill the sheet: its records are odd in
+/// number.
 fn filled(script: &mut Vec<u8>) {
+    let lots = (records(PROGRAM_WORDS) as u32 - FIRST_RECORD) / 2;
+    let more = lots + 1;
     line(script, "p 1 0 1 0 1");
-    for lot in 1..=2042 {
+    for lot in 1..=lots {
         line(script, &format!("o {lot}"));
         line(script, &format!("i {lot} {}", lot % 3));
     }
-    for text in [
-        "o 2043", "o 2044", "i 2043 0", "i 1 0", "o 5", "l 2042", "c 2043",
-    ] {
-        line(script, text);
+    for lot in [more, more + 1] {
+        line(script, &format!("o {lot}"));
     }
-    for lot in (1..=2042).rev() {
+    line(script, &format!("i {more} 0"));
+    line(script, "i 1 0");
+    line(script, "o 5");
+    line(script, &format!("l {lots}"));
+    line(script, &format!("c {more}"));
+    for lot in (1..=lots).rev() {
         line(script, &format!("c {lot}"));
     }
-    for text in ["t", "i 2043 0", "c 2043", "t", "o 1", "t"] {
+    line(script, "t");
+    line(script, &format!("i {more} 0"));
+    line(script, &format!("c {more}"));
+    for text in ["t", "o 1", "t"] {
         line(script, text);
     }
 }

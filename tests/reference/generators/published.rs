@@ -1,7 +1,7 @@
 //! Published chances of acceptance: table 5.1 of document 003 and the binomial
 //! table. Their weights are percentages.
 
-use crate::chance::{Bounds, Weights, UNITS};
+use crate::model::chance::{Bounds, Weights, UNITS};
 
 pub struct Row {
     pub words: [u32; 5],

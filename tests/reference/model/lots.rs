@@ -1,14 +1,16 @@
-//! 01 "Program lots": the replies to standard input, on one sheet of 16,384 words.
+//! 01 "Program lots": the replies to standard input, on one sheet.
 
-use crate::answers::Reply;
-use crate::sheet::{Plans, Sheet};
+use super::layout::PROGRAM_WORDS;
+use super::plan::whole_stages;
+use super::sheet::Sheet;
+use super::Reply;
+
+/// The most bytes of a command.
+pub const LINE_BYTES: usize = 255;
 
 /// The replies to the whole input.
 pub fn replies(input: &[u8]) -> Vec<u8> {
-    let mut sheet = Sheet {
-        words: vec![0; 16_384],
-        plans: Plans::default(),
-    };
+    let mut sheet = Sheet::new(vec![0; PROGRAM_WORDS]);
     let mut out = String::new();
     for line in lines(input) {
         let text = match answer(&mut sheet, line) {
@@ -41,7 +43,7 @@ fn number(field: &[u8]) -> Option<u32> {
 
 /// The letter and the numbers of a line.
 fn fields(line: &[u8]) -> Option<(u8, Vec<u32>)> {
-    if line.len() > 255 {
+    if line.len() > LINE_BYTES {
         return None;
     }
     let mut fields = line.split(|&byte| byte == b' ');
@@ -55,7 +57,7 @@ fn fields(line: &[u8]) -> Option<(u8, Vec<u32>)> {
 fn answer(sheet: &mut Sheet, line: &[u8]) -> Reply<String> {
     let (letter, numbers) = fields(line).ok_or(16_u32)?;
     let done = match (letter, numbers.as_slice()) {
-        (b'p', plan) if (5..=35).contains(&plan.len()) && plan.len() % 5 == 0 => sheet.fresh(plan),
+        (b'p', plan) if whole_stages(plan.len()) => sheet.fresh(plan),
         (b'o', &[lot]) => sheet.open(lot),
         (b'i', &[lot, class]) => sheet.inspect(lot, class),
         (b's', &[lot]) => sheet.strike(lot),

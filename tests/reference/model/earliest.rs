@@ -2,7 +2,7 @@
 //! units have one uncurtailed verdict. It is found in two ways: by writing out
 //! all completions, and by a table of the verdicts that can still be reached.
 
-use crate::plan::{Counts, Plan, ACCEPTED, BAD, BOTH, NONGOOD, REJECTED};
+use super::plan::{Counts, Plan, ACCEPTED, BAD, BOTH, NONGOOD, REJECTED};
 
 /// Units and state at a stop; None if no stop is reached on the list.
 pub type Stop = Option<(usize, u8)>;

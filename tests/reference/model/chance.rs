@@ -1,10 +1,13 @@
 //! 01 "Chance of acceptance": low and high in units of 2^-40, and the chart.
 
-use crate::earliest::Table;
-use crate::plan::{Counts, Plan, ACCEPTED, BAD, NONGOOD, REJECTED};
+use super::earliest::Table;
+use super::plan::{Counts, Plan, ACCEPTED, BAD, MOST_R1, NONGOOD, REJECTED};
 
 /// The chance 1 in units of 2^-40.
 pub const UNITS: u64 = 1 << 40;
+
+/// The greatest sum of weights.
+pub const MOST_WEIGHT: u64 = 1_000_000;
 
 /// w0, w1 and w2 of 01.
 pub type Weights = [u32; 3];
@@ -23,7 +26,10 @@ pub fn sum(weights: Weights) -> u64 {
     weights.into_iter().map(u64::from).sum()
 }
 
-/// The words that a call needs: 2 × last r1 × last r2.
+/// The words of scratch that are enough for every plan.
+pub const MOST_SCRATCH: u64 = 2 * MOST_R1 * MOST_R1;
+
+/// The words of scratch that a call needs: 2 × last r1 × last r2.
 pub fn needed(plan: &Plan) -> u64 {
     let [r1, r2] = plan.last().r;
     2 * r1 * r2

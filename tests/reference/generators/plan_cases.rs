@@ -1,13 +1,15 @@
-//! The seeded cases: hand-written edges, then random plans with their lists and
+//! The seeded cases on plans: hand-written edges, then random plans with their lists and
 //! chances.
 
-use crate::chance::{needed, Weights};
-use crate::draw;
-use crate::earliest::{by_table, Table};
-use crate::edges::{self, A, B, KNOWN, NEAR_A, NEAR_B, ONE, SEVEN, THREE, TWO};
-use crate::plan::Plan;
-use crate::published;
-use crate::random::Random;
+use super::hand_written::{runs, A, B, LARGEST, ONE, SEVEN, THREE, TWO, UNIT, WEIGHTS, WRAPS};
+use super::known_lots::{CHANCES, KNOWN, NEAR_A, NEAR_B};
+use super::plan_edges::edges;
+use super::random::Random;
+use super::{draw, published};
+use crate::lines::fields;
+use crate::model::chance::{self, needed, Weights};
+use crate::model::earliest::{by_table, Table};
+use crate::model::plan::Plan;
 use std::collections::HashSet;
 
 const SEED: u64 = 1_000_060;
@@ -78,14 +80,14 @@ impl Cases {
     }
 
     fn admission_edges(&mut self) {
-        for edge in edges::edges() {
+        for edge in edges() {
             self.admission(&edge.kept());
             self.admission(&edge.broken());
         }
-        for words in edges::runs() {
+        for words in runs() {
             self.admission(&words);
         }
-        for words in edges::WRAPS {
+        for words in WRAPS {
             self.admission(words);
             self.judged(&[0, 1, 2, 0, 0], words);
         }
@@ -121,7 +123,7 @@ impl Cases {
             self.plain_lists(words);
             (0..5).for_each(|_| self.lists(words));
         }
-        for edge in edges::edges() {
+        for edge in edges() {
             self.lists(&edge.kept());
             self.judged(&[2, 0, 1], &edge.broken());
         }
@@ -231,7 +233,7 @@ impl Cases {
 
     /// Those of 01 and of the published tables.
     fn known_chances(&mut self) {
-        for &(words, weights, _) in edges::CHANCES {
+        for &(words, weights, _) in CHANCES {
             self.chance_and_chart(weights, scratch(words), words);
         }
         for row in published::rows() {
@@ -242,16 +244,16 @@ impl Cases {
     /// Sums of weights and lengths of the scratch at their limits, and the
     /// largest plans.
     fn chances_at_limits(&mut self) {
-        for words in [edges::UNIT, A, B, ONE, SEVEN] {
+        for words in [UNIT, A, B, ONE, SEVEN] {
             let exact = scratch(words);
-            for &weights in edges::WEIGHTS {
+            for &weights in WEIGHTS {
                 self.chance_and_chart(weights, exact, words);
             }
             for length in [0, exact - 1, exact, exact + 1, MOST_SCRATCH] {
                 self.chance_and_chart([80, 13, 7], length, words);
             }
         }
-        for words in edges::LARGEST {
+        for words in LARGEST {
             let near_the_numbers = [942_000, 3_000, 55_000];
             self.chance_and_chart(near_the_numbers, MOST_SCRATCH, words);
             self.chance_and_chart(near_the_numbers, MOST_SCRATCH - 1, words);
@@ -260,7 +262,7 @@ impl Cases {
 
     /// Several refusals at once, of which the lowest is given.
     fn refused_chances(&mut self) {
-        for words in [&[], &A[..4], &[5, 2, 3, 1, 3], &edges::WRAPS[0][..]] {
+        for words in [&[], &A[..4], &[5, 2, 3, 1, 3], &WRAPS[0][..]] {
             for weights in [[1, 1, 1], [0, 0, 0], [u32::MAX, 1, 5]] {
                 self.chance_and_chart(weights, 0, words);
                 self.chance_and_chart(weights, MOST_SCRATCH, words);
@@ -291,14 +293,10 @@ impl Cases {
 }
 
 /// The longest scratch of a case, which the largest plans need.
-const MOST_SCRATCH: u32 = 7200;
+const MOST_SCRATCH: u32 = chance::MOST_SCRATCH as u32;
 
 /// The words of scratch that an admitted plan needs.
 fn scratch(words: &[u32]) -> u32 {
     let plan = Plan::admitted(words).expect("the plan is admitted");
     needed(&plan) as u32
-}
-
-pub fn fields(words: &[u32]) -> String {
-    words.iter().map(|word| format!(" {word}")).collect()
 }

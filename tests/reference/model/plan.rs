@@ -5,7 +5,12 @@ pub const NONGOOD: usize = 0;
 pub const BAD: usize = 1;
 
 /// Words of a stage, in the order n a1 r1 a2 r2 (01 "Sheet").
-pub const WORDS: usize = 5;
+pub const STAGE_WORDS: usize = 5;
+
+/// The greatest k, S and last r1 (01 "Plan").
+pub const MOST_STAGES: usize = 7;
+pub const MOST_UNITS: u64 = 1_000;
+pub const MOST_R1: u64 = 60;
 
 /// Verdicts are look's states (01 "Sheet"). Each is one bit as well, so a set
 /// of verdicts is the sum of its members.
@@ -93,15 +98,19 @@ impl Plan {
     }
 }
 
+/// Whether a run of so many words is 1 to 7 whole stages.
+pub fn whole_stages(words: usize) -> bool {
+    words % STAGE_WORDS == 0 && (1..=MOST_STAGES).contains(&(words / STAGE_WORDS))
+}
+
 /// The stages of a run of words; None if it isn't 1 to 7 whole stages. The
 /// words are widened so that no sum of them wraps.
 fn stages(words: &[u32]) -> Option<Vec<Stage>> {
-    let whole = words.len() % WORDS == 0;
-    if !whole || !(1..=7).contains(&(words.len() / WORDS)) {
+    if !whole_stages(words.len()) {
         return None;
     }
     let mut end = 0;
-    let read = words.chunks(WORDS).map(|stage| {
+    let read = words.chunks(STAGE_WORDS).map(|stage| {
         let word = |index: usize| u64::from(stage[index]);
         end += word(0);
         Stage {
@@ -135,8 +144,8 @@ fn rules_of_stages(stages: &[Stage]) -> Rules {
     let each = |holds: fn(&Stage) -> bool| stages.iter().all(holds);
     vec![
         ("each ni >= 1", each(|stage| stage.size >= 1)),
-        ("S <= 1000", last.end <= 1000),
-        ("last r1 <= 60", last.r[NONGOOD] <= 60),
+        ("S <= 1000", last.end <= MOST_UNITS),
+        ("last r1 <= 60", last.r[NONGOOD] <= MOST_R1),
         ("a2 <= a1", each(|stage| stage.a[BAD] <= stage.a[NONGOOD])),
         ("r2 <= r1", each(|stage| stage.r[BAD] <= stage.r[NONGOOD])),
     ]

@@ -1,13 +1,26 @@
 //! 01 "Four ways to stop" and "Lists, events, estimates": a list judged four
 //! ways, and the event.
 
-use crate::earliest::{by_both, Stop, Table};
-use crate::plan::{Counts, Plan, Stage, ACCEPTED, BAD, NONGOOD, REJECTED};
+use super::earliest::{by_both, Stop, Table};
+use super::plan::{Counts, Plan, Stage, ACCEPTED, BAD, NONGOOD, REJECTED};
 
 /// Stop and state of uncurtailed, semi, full and earliest, and the event.
 pub struct Judgement {
     pub stops: [Stop; 4],
     pub event: u8,
+}
+
+impl Judgement {
+    /// Stop and state of each way, 0 if not reached, and the event.
+    pub fn numbers(&self) -> [u64; 9] {
+        let stops = self.stops.map(|stop| stop.unwrap_or((0, 0)));
+        let mut numbers = [0; 9];
+        for (pair, (units, state)) in numbers.chunks_exact_mut(2).zip(stops) {
+            pair.copy_from_slice(&[units as u64, u64::from(state)]);
+        }
+        numbers[8] = u64::from(self.event);
+        numbers
+    }
 }
 
 /// What a way says after y units with these counts; None is to go on.

@@ -1,9 +1,10 @@
-//! Random admitted plans and random lists of classes for them.
+//! Random admitted plans, random lists and weights for them, random calls on a sheet.
 
-use crate::chance::Weights;
-use crate::earliest::Table;
-use crate::plan::{Counts, Plan, Stage, BAD, BOTH, NONGOOD};
-use crate::random::Random;
+use super::random::Random;
+use crate::model::chance::{Weights, MOST_WEIGHT};
+use crate::model::earliest::Table;
+use crate::model::plan::{Counts, Plan, Stage, BAD, BOTH, MOST_R1, NONGOOD};
+use crate::model::sheet_call::SheetCall;
 
 /// The words of an admitted plan of S units and k stages, fewer where S is less
 /// than k. For a large S the last r1 is near 60, its greatest value.
@@ -13,8 +14,8 @@ pub fn plan(random: &mut Random, k: usize, units: u32) -> Vec<u32> {
     // With several stages a + 1 < r before the last, so no r is below 2.
     let least_r = if k > 1 { 2 } else { 1 };
     let last_r1 = match units {
-        0..=99 => random.at_ends_or_between(least_r, units.min(60)),
-        _ => random.between(52, 60),
+        0..=99 => random.at_ends_or_between(least_r, units.min(MOST_R1 as u32)),
+        _ => random.between(52, MOST_R1 as u32),
     };
     let last_r2 = random.at_ends_or_between(least_r, last_r1);
     let (a1, r1) = row(random, last_r1, &vec![last_r1; k], &below_ends(&sizes));
@@ -103,7 +104,7 @@ pub fn weights(random: &mut Random, plan: &Plan) -> Weights {
         0 => random.pick(&MIXES),
         1 => fitting_mix(plan),
         2 => [(); 3].map(|()| random.between(0, 9)),
-        3 => [1_000_000 - marginal - bad, marginal, bad],
+        3 => [MOST_WEIGHT as u32 - marginal - bad, marginal, bad],
         _ => [good, marginal, bad],
     }
 }
@@ -173,4 +174,25 @@ pub fn held(
         list.push(class);
     }
     list
+}
+
+/// A call on one of few lots; classes mostly by these weights.
+pub fn sheet_call(random: &mut Random, mix: [u32; 3]) -> SheetCall {
+    let lot = random.pick(&[1, 2, 3, 1_000, u32::MAX]);
+    let lot = if random.one_in(40) { 0 } else { lot };
+    let class = u32::from(random.class(mix));
+    let class = if random.one_in(40) {
+        random.pick(&[3, 256, u32::MAX])
+    } else {
+        class
+    };
+    match random.index(20) {
+        0..=2 => SheetCall::Open(lot),
+        3..=11 => SheetCall::Inspect(lot, class),
+        12 => SheetCall::Strike(lot),
+        13..=15 => SheetCall::Close(lot),
+        16 | 17 => SheetCall::Look(lot),
+        18 => SheetCall::Estimate(lot),
+        _ => SheetCall::Tally,
+    }
 }

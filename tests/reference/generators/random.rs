@@ -57,9 +57,9 @@ impl Random {
         }
     }
 
-    pub fn shuffle(&mut self, classes: &mut [u8]) {
-        for last in (1..classes.len()).rev() {
-            classes.swap(last, self.index(last + 1));
+    pub fn shuffle<T>(&mut self, items: &mut [T]) {
+        for last in (1..items.len()).rev() {
+            items.swap(last, self.index(last + 1));
         }
     }
 }

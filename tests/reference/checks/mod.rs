@@ -1,0 +1,30 @@
+//! Checks of the model itself, and of what the generators cover.
+
+mod chance_selftest;
+mod plan_selftest;
+mod sheet_histories;
+pub mod stats;
+
+use crate::lines::plan_lines;
+use crate::model::plan_calls::PlanCalls;
+
+/// All checks of the model; the first one that fails is the error.
+pub fn selftest() -> Result<(), String> {
+    let plans = 4000;
+    let stops = plan_selftest::run(plans)?;
+    chance_selftest::run(plans)?;
+    eprintln!("selftest passed: {plans} random plans, their chances, {stops} stops on their lists");
+    let plays = 400;
+    sheet_histories::run(plays)?;
+    eprintln!("selftest passed: {plays} lists of calls on sheets, by words and by histories");
+    Ok(())
+}
+
+fn expect_answer(line: &str, expected: &str) -> Result<(), String> {
+    let answer = plan_lines::answer(&mut PlanCalls::default(), line)?;
+    if answer == expected {
+        Ok(())
+    } else {
+        Err(format!("{line} gives {answer}, not {expected}"))
+    }
+}

@@ -1,0 +1,169 @@
+//! A check of model/sheet.rs: 01 "Sheet" says what calls reply by the lots'
+//! histories alone. Here lists of calls are answered from histories, without any
+//! words, and the stops are found by writing out all completions.
+
+use crate::generators::draw;
+use crate::generators::random::Random;
+use crate::lines::sheet_lines::Write;
+use crate::model::earliest::by_completions;
+use crate::model::layout::{records, room, FIRST_RECORD};
+use crate::model::plan::Plan;
+use crate::model::sheet::Sheet;
+use crate::model::sheet_call::SheetCall;
+use crate::model::Reply;
+use std::collections::BTreeMap;
+
+/// Accepted lots, rejected lots, good, marginal, bad.
+type Totals = [u64; 5];
+
+struct Histories {
+    plan: Plan,
+    lots: BTreeMap<u32, Vec<u8>>,
+    totals: Totals,
+    /// Records that lots and inspections may use.
+    room: usize,
+}
+
+impl Histories {
+    fn make(&mut self, call: &SheetCall) -> Reply<Vec<u64>> {
+        let done = match *call {
+            SheetCall::Fresh(ref words) => self.fresh(words),
+            SheetCall::Open(lot) => self.open(lot),
+            SheetCall::Inspect(lot, class) => self.inspect(lot, class),
+            SheetCall::Strike(lot) => self.strike(lot),
+            SheetCall::Close(lot) => self.close(lot),
+            SheetCall::Look(lot) => return self.look(lot),
+            SheetCall::Tally => return Ok(self.totals.to_vec()),
+            SheetCall::Estimate(lot) => return self.estimate(lot),
+        };
+        done.map(|()| vec![])
+    }
+
+    fn history(&self, lot: u32) -> Reply<&Vec<u8>> {
+        self.lots.get(&lot).ok_or(6)
+    }
+
+    fn state(&self, history: &[u8]) -> u8 {
+        by_completions(&self.plan, history).map_or(0, |(_, state)| state)
+    }
+
+    fn needs_a_record(&self) -> Reply<()> {
+        let used: usize = self.lots.values().map(|history| 1 + history.len()).sum();
+        if used < self.room {
+            Ok(())
+        } else {
+            Err(11)
+        }
+    }
+
+    fn fresh(&mut self, words: &[u32]) -> Reply<()> {
+        self.plan = Plan::admitted(words).ok_or(2_u32)?;
+        self.lots.clear();
+        self.totals = Totals::default();
+        Ok(())
+    }
+
+    fn open(&mut self, lot: u32) -> Reply<()> {
+        if lot == 0 {
+            return Err(4);
+        }
+        if self.lots.contains_key(&lot) {
+            return Err(5);
+        }
+        self.needs_a_record()?;
+        self.lots.insert(lot, vec![]);
+        Ok(())
+    }
+
+    fn inspect(&mut self, lot: u32, class: u32) -> Reply<()> {
+        let history = self.history(lot)?;
+        if class > 2 {
+            return Err(7);
+        }
+        if self.state(history) != 0 {
+            return Err(8);
+        }
+        self.needs_a_record()?;
+        self.lots.entry(lot).or_default().push(class as u8);
+        Ok(())
+    }
+
+    fn strike(&mut self, lot: u32) -> Reply<()> {
+        self.history(lot)?;
+        let newest = self.lots.entry(lot).or_default().pop();
+        newest.map(|_| ()).ok_or(9)
+    }
+
+    fn close(&mut self, lot: u32) -> Reply<()> {
+        let history = self.history(lot)?;
+        let state = usize::from(self.state(history));
+        if state == 0 {
+            return Err(10);
+        }
+        let units = counts(history);
+        self.totals[state - 1] += 1;
+        let totals = self.totals[2..].iter_mut();
+        totals.zip(units).for_each(|(total, more)| *total += more);
+        self.lots.remove(&lot);
+        Ok(())
+    }
+
+    fn look(&self, lot: u32) -> Reply<Vec<u64>> {
+        let history = self.history(lot)?;
+        let state = u64::from(self.state(history));
+        Ok([&[state, history.len() as u64], &counts(history)[..]].concat())
+    }
+
+    fn estimate(&self, lot: u32) -> Reply<Vec<u64>> {
+        let history = self.history(lot)?;
+        if self.state(history) == 0 {
+            return Err(10);
+        }
+        if self.plan.stages.len() > 1 {
+            return Err(15);
+        }
+        let before = &history[..history.len() - 1];
+        Ok([&counts(before)[..], &[before.len() as u64]].concat())
+    }
+}
+
+fn counts(history: &[u8]) -> [u64; 3] {
+    [0, 1, 2].map(|class| history.iter().filter(|&&it| it == class).count() as u64)
+}
+
+/// So many lists of calls by words and by histories.
+pub fn run(plays: usize) -> Result<(), String> {
+    let random = &mut Random::new(11);
+    let lengths = [room(1), room(3), room(5) + 3, room(9), room(14), room(24)];
+    for round in 0..plays {
+        let units = random.between(1, 6);
+        let words = draw::plan(random, 1 + round % 3, units);
+        let length = random.pick(&lengths);
+        play(random, &words, length)?;
+    }
+    Ok(())
+}
+
+fn play(random: &mut Random, words: &[u32], length: usize) -> Result<(), String> {
+    let mut sheet = Sheet::default();
+    let (length, seed) = (length as u32, random.between(0, u32::MAX));
+    Write::New { length, seed }.make(&mut sheet.words);
+    let fresh = sheet.fresh(words);
+    fresh.map_err(|number| format!("fresh with {words:?} is refused {number}"))?;
+    let mut histories = Histories {
+        plan: Plan::admitted(words).ok_or("the plan is drawn as an admitted one")?,
+        lots: BTreeMap::new(),
+        totals: Totals::default(),
+        room: records(sheet.words.len()) - FIRST_RECORD as usize,
+    };
+    for _ in 0..120 {
+        let call = draw::sheet_call(random, [2, 1, 1]);
+        let (reply, expected) = (call.make(&mut sheet), histories.make(&call));
+        if reply != expected {
+            return Err(format!(
+                "{call:?} under {words:?}: {reply:?}, not {expected:?}"
+            ));
+        }
+    }
+    Ok(())
+}

@@ -1,0 +1,186 @@
+//! Commands on damaged sheets: each word changed alone, and named kinds of
+//! damage that need several words.
+
+use super::hand_written::{A, B, TWO, UNIT};
+use super::sheet_script::Script;
+use crate::model::layout::*;
+use crate::model::plan::STAGE_WORDS;
+
+/// Kinds of damage to the sheet of `with_all_records`, as commands.
+const SEVERAL: &[&str] = &[
+    // A chain into a lot, a loop of lots, a wrong serial; a word after the last record.
+    "p @3.1 @0",
+    "p @4.1 @0",
+    "p @5.1 @2, p @5.3 1",
+    "p @13.1 @11",
+    // Lots with each other's inspections, or with the same.
+    "p @0.2 @6, p @2.2 @3",
+    "p @2.2 @3",
+    "p @2.2 @3, p @3.2 @3, p @5.2 @1, p @4.2 @1",
+    // A chain of lots through an inspection, and an inspection that follows itself.
+    "p @2.1 @3",
+    "p @1.1 @1",
+    // Lot numbers equal, falling, or 0.
+    "p @0.0 0",
+    "p @2.0 3, p @0.0 3",
+    "p @2.0 2, p @0.0 3",
+];
+
+/// Numbers of stages that a head does not have, and 7; some wrap when multiplied by 5.
+const KS: &[u32] = &[
+    0,
+    2,
+    7,
+    8,
+    9,
+    12,
+    13,
+    255,
+    858_993_459,
+    858_993_460,
+    1 << 30,
+    1 << 31,
+    u32::MAX,
+];
+
+impl Script {
+    pub fn damage(&mut self) {
+        for plan in [A, TWO] {
+            self.with_all_records(plan);
+            self.each_word();
+            self.several_words();
+        }
+        self.heads();
+        self.indices_at_limits();
+        self.after_a_stop();
+        self.other_classes();
+    }
+
+    /// Lots 3, 5 and 9, decided and not, two to four free records, unused ones
+    /// and two words after the last whole record.
+    fn with_all_records(&mut self, plan: &[u32]) {
+        self.fresh(room(13) + 2, 0, plan);
+        self.lines("o 3, i 3 0, o 5, i 5 1, o 9, i 3 1, i 5 2, i 3 2, i 5 0, o 4, i 9 2, s 9, s 3");
+        self.lines("o 7, i 7 2, i 7 2, s 7, i 4 0, s 4, s 7");
+    }
+
+    /// Each word with values next to its own, and with ones out of all limits.
+    fn each_word(&mut self) {
+        let before = self.words().to_vec();
+        for (index, &word) in before.iter().enumerate() {
+            let near = [word ^ 1, word.wrapping_add(1), word.wrapping_sub(1)];
+            let first = FIRST_RECORD;
+            let far = [0, 3, first - 1, first, first + 3, before[NEXT_UNUSED]][index % 6];
+            let mut values = [&near[..], &[u32::MAX, far]].concat();
+            values.retain(|&value| value != word);
+            values.dedup();
+            for value in values {
+                self.put(index, value);
+                self.damaged(&before, index);
+                self.restore(&before);
+            }
+        }
+    }
+
+    /// Tally, and now and then a call that would write.
+    fn damaged(&mut self, before: &[u32], index: usize) {
+        let torn = self.line("t").starts_with("no 3");
+        let call = ["o 6", "i 9 0", "s 5", "c 3", "l 5", "i 3 3", "s 9"][index % 7];
+        if torn || before.len() - index < 3 {
+            self.line(call);
+        } else {
+            self.line("l 5");
+        }
+    }
+
+    fn several_words(&mut self) {
+        let before = self.words().to_vec();
+        for lines in SEVERAL {
+            self.lines(lines);
+            self.lines("t, l 3, o 6, i 9 0, c 5, s 3");
+            self.restore(&before);
+        }
+    }
+
+    /// Heads with any k, with stages past the k of the sheet, and with any word 0.
+    fn heads(&mut self) {
+        for plan in [A, B] {
+            self.fresh(room(5), 0, plan);
+            self.line("o 1");
+            for &k in KS {
+                self.put(K, k);
+                self.lines("t, o 2, i 1 0");
+                self.put(K, (plan.len() / STAGE_WORDS) as u32);
+            }
+            for index in (STAGES + plan.len()..CLOSED_LOTS).chain([TOTALS_END - 1]) {
+                self.put(index, 1);
+                self.line("t");
+                self.put(index, 0);
+            }
+            self.line("t");
+        }
+        let near = [-1, 0, 1, 2, 4, 5, 6, 7].map(|more| FIRST_RECORD.wrapping_add_signed(more));
+        for next in [&[0], &near[..], &[1 << 30, u32::MAX]].concat() {
+            self.fresh(room(5) + 3, 0, UNIT);
+            self.put(NEXT_UNUSED, next);
+            self.lines("t, o 1, o 2, i 1 0");
+        }
+    }
+
+    /// Chains in order but for an index before the first record, or of word 0: as a
+    /// lot, as an inspection and as a free record. Then with the index inside.
+    fn indices_at_limits(&mut self) {
+        let chains = [
+            "p @-1.0 5, p first-lot @-1, p next-unused @1",
+            "p @-1.0 2, p @-1.2 @0, p @-1.3 1, p first-lot @0, p @0.0 5, p @0.2 @-1, \
+             p next-unused @2",
+            "p first-lot @1, p @1.0 5, p next-unused @1",
+            "p first-lot @0, p @0.0 5, p @0.2 @2, p @2.2 @0, p @2.3 1, p next-unused @2",
+            "p first-lot @0, p @0.0 5, p @0.2 @1, p @1.2 @0, p @1.3 1, p next-unused @2",
+            "p first-free @1, p @1.0 1, p @1.3 free-tag, p next-unused @1",
+            "p first-free @0, p @0.0 1, p @0.3 free-tag, p next-unused @1",
+            "p first-lot @5, p next-unused @5",
+            "p first-lot @4, p @4.0 5, p next-unused @5",
+            "p first-lot @0, p @0.0 5, p next-unused @1",
+        ];
+        for lines in chains {
+            self.fresh(room(5), 0, A);
+            self.lines(lines);
+            self.lines("t, l 5, e 5, s 5, o 6, i 5 0, c 5");
+        }
+    }
+
+    /// A plan in the head that stops a lot before its last inspection, or not.
+    fn after_a_stop(&mut self) {
+        self.fresh(room(10), 0, A);
+        self.lines("o 8, i 8 0, i 8 0, i 8 0, i 8 1, l 8, e 8");
+        for stage in [
+            [4, 2, 3, 1, 2],
+            [6, 2, 3, 1, 2],
+            [5, 1, 2, 1, 2],
+            [5, 3, 4, 1, 2],
+            [5, 2, 3, 0, 1],
+        ] {
+            for (index, word) in stage.into_iter().enumerate() {
+                self.put(STAGES + index, word);
+            }
+            self.lines("t, l 8, e 8, s 8, l 8, e 8, i 8 1, c 9");
+        }
+    }
+
+    /// Inspections of another class, the older ones too.
+    fn other_classes(&mut self) {
+        self.fresh(room(10), 0, A);
+        self.lines("o 8, i 8 1, i 8 0, i 8 1, i 8 0, l 8");
+        for class in [0, 1, 2, 3, u32::MAX] {
+            for record in 1..=4 {
+                let index = place(FIRST_RECORD + record, CLASS);
+                let old = self.words()[index];
+                self.put(index, class);
+                self.lines("l 8, e 8");
+                self.put(index, old);
+            }
+        }
+        self.lines("p @1.0 2, p @2.0 2, p @3.0 2, l 8, c 8, s 8, p @4.0 2, l 8, t");
+    }
+}

@@ -1,0 +1,119 @@
+//! Command lines on a sheet (lines/sheet_lines.rs), written one by one.
+//!
+//! A field may be a number of model/layout.rs by name: the place of a word of the
+//! head, as `first-lot`; `@0`, the index of the first record after the head;
+//! `@0.1`, the place of word 1 of it; `record`, the words of a record.
+
+use super::random::Random;
+use crate::lines::{fields, sheet_lines};
+use crate::model::layout::*;
+use crate::model::sheet::Sheet;
+
+/// The lines so far, and the sheet as they leave it.
+pub struct Script {
+    lines: Vec<String>,
+    sheet: Sheet,
+    pub random: Random,
+}
+
+impl Script {
+    pub fn new(seed: u64) -> Script {
+        Script {
+            lines: Vec::new(),
+            sheet: Sheet::default(),
+            random: Random::new(seed),
+        }
+    }
+
+    /// Adds a line, and gives its answer.
+    pub fn line(&mut self, line: &str) -> String {
+        let fields: Vec<String> = line.split(' ').map(numbered).collect();
+        let line = fields.join(" ");
+        let answer = sheet_lines::answer(&mut self.sheet, &line);
+        self.lines.push(line);
+        answer.expect("the lines are commands")
+    }
+
+    /// Several lines, parted by commas.
+    pub fn lines(&mut self, lines: &str) {
+        for line in lines.split(", ") {
+            self.line(line);
+        }
+    }
+
+    pub fn fresh(&mut self, length: usize, seed: u32, plan: &[u32]) {
+        self.line(&format!("n {length} {seed}"));
+        self.line(&format!("f{}", fields(plan)));
+    }
+
+    pub fn put(&mut self, index: usize, word: u32) {
+        self.line(&format!("p {index} {word}"));
+    }
+
+    /// Opens a lot and inspects a list of classes.
+    pub fn lot(&mut self, lot: u32, list: &[u8]) {
+        self.line(&format!("o {lot}"));
+        for class in list {
+            self.line(&format!("i {lot} {class}"));
+        }
+    }
+
+    /// Each call, with numbers that break rules of 01 "Refused" too.
+    pub fn each_call(&mut self, lot: u32) {
+        self.lines("t, o 0, i 0 3");
+        for call in ["l", "s", "e", "c", "o", "l"] {
+            self.line(&format!("{call} {lot}"));
+        }
+        self.line(&format!("i {lot} 3"));
+        self.line(&format!("i {lot} 0"));
+    }
+
+    pub fn words(&self) -> &[u32] {
+        &self.sheet.words
+    }
+
+    /// Writes each word back that is not as it was.
+    pub fn restore(&mut self, before: &[u32]) {
+        for (index, &old) in before.iter().enumerate() {
+            if self.words()[index] != old {
+                self.put(index, old);
+            }
+        }
+    }
+
+    pub fn finish(self) -> Vec<String> {
+        self.lines
+    }
+}
+
+/// A field with a name as its number.
+fn numbered(field: &str) -> String {
+    let number = match field {
+        "next-unused" => NEXT_UNUSED,
+        "first-lot" => FIRST_LOT,
+        "first-free" => FIRST_FREE,
+        "k" => K,
+        "closed-lots" => CLOSED_LOTS,
+        "record" => RECORD_WORDS,
+        "free-tag" => FREE as usize,
+        _ => match field.strip_prefix('@') {
+            Some(record) => record_or_word(record),
+            None => return field.to_string(),
+        },
+    };
+    number.to_string()
+}
+
+/// A record counted from the first after the head, or the place of its word.
+fn record_or_word(text: &str) -> usize {
+    let (record, word) = match text.split_once('.') {
+        Some((record, word)) => (record, Some(word)),
+        None => (text, None),
+    };
+    let offset: i32 = record.parse().expect("a record is a number");
+    let record = FIRST_RECORD.wrapping_add_signed(offset);
+    match word {
+        Some(word) => place(record, word.parse().expect("a word is a number")),
+        None => record as usize,
+    }
+}

@@ -1,0 +1,81 @@
+//! Case lines on plans and their answers. Fields are parted by one space:
+//!
+//! - `a` and plan words: `admitted` or `no 2` (01 "Plan", "Refused").
+//! - `j`, a dot with the classes of a list as digits, and plan words: stop and
+//!   state of uncurtailed, semi, full and earliest and the event, or `no 2`, or
+//!   `no 7` for a class above 2 anywhere (01 "Lists, events, estimates").
+//! - `c`, three weights, the words of scratch and plan words: low and high in
+//!   units of 2^-40, or `no 2`, `no 13`, `no 14` (01 "Chance of acceptance").
+//! - `f` and the same fields: the bit patterns of the chart's two floats, or the
+//!   same refusals.
+
+use super::reply_text;
+use crate::model::chance;
+use crate::model::plan::Plan;
+use crate::model::plan_calls::{ChanceCall, PlanCalls};
+
+pub enum Case {
+    Admission(Vec<u32>),
+    Judged(Vec<u8>, Vec<u32>),
+    Chance(ChanceCall),
+    Chart(ChanceCall),
+}
+
+impl Case {
+    pub fn parse(line: &str) -> Result<Case, String> {
+        let fields: Vec<&str> = line.split(' ').collect();
+        let case = match fields[..] {
+            ["a", ref words @ ..] => numbers(words).map(Case::Admission),
+            ["j", list, ref words @ ..] => classes(list)
+                .zip(numbers(words))
+                .map(|(list, words)| Case::Judged(list, words)),
+            ["c", ref call @ ..] => taken(call).map(Case::Chance),
+            ["f", ref call @ ..] => taken(call).map(Case::Chart),
+            _ => None,
+        };
+        case.ok_or_else(|| format!("not a case: {line}"))
+    }
+}
+
+fn numbers(fields: &[&str]) -> Option<Vec<u32>> {
+    fields.iter().map(|field| number(field)).collect()
+}
+
+fn number(field: &str) -> Option<u32> {
+    let digits = field.bytes().all(|byte| byte.is_ascii_digit());
+    field.parse().ok().filter(|_| digits)
+}
+
+fn taken(fields: &[&str]) -> Option<ChanceCall> {
+    let [w0, w1, w2, scratch, ref words @ ..] = numbers(fields)?[..] else {
+        return None;
+    };
+    Some(ChanceCall {
+        weights: [w0, w1, w2],
+        scratch,
+        words: words.to_vec(),
+    })
+}
+
+/// The classes after the dot.
+pub fn classes(field: &str) -> Option<Vec<u8>> {
+    let class = |byte: u8| byte.is_ascii_digit().then(|| byte - b'0');
+    field.strip_prefix('.')?.bytes().map(class).collect()
+}
+
+/// The answer to a line.
+pub fn answer(calls: &mut PlanCalls, line: &str) -> Result<String, String> {
+    let reply = match Case::parse(line)? {
+        Case::Admission(words) => match Plan::admitted(&words) {
+            Some(_) => return Ok("admitted".to_string()),
+            None => Err(2),
+        },
+        Case::Judged(list, words) => {
+            let reply = calls.judge(&list, &words);
+            reply.map(|judgement| judgement.numbers().to_vec())
+        }
+        Case::Chance(call) => calls.chance(&call).map(Vec::from),
+        Case::Chart(call) => calls.chance(&call).map(chance::chart).map(Vec::from),
+    };
+    Ok(reply_text(reply))
+}

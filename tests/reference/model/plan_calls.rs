@@ -1,0 +1,52 @@
+//! Judge and chance as calls on the words of a plan, with their refusals. Where
+//! several apply the lowest is given (01 "Refused").
+
+use super::chance::{self, Bounds, Weights, MOST_WEIGHT};
+use super::earliest::Table;
+use super::judge::{judge, Judgement};
+use super::plan::Plan;
+use super::Reply;
+
+/// What a chance and a chart take.
+pub struct ChanceCall {
+    pub weights: Weights,
+    pub scratch: u32,
+    pub words: Vec<u32>,
+}
+
+/// Keeps the plan last asked for, since its calls mostly follow each other and
+/// its table is the costly part.
+#[derive(Default)]
+pub struct PlanCalls {
+    kept: Option<(Vec<u32>, Plan, Table)>,
+}
+
+impl PlanCalls {
+    pub fn judge(&mut self, list: &[u8], words: &[u32]) -> Reply<Judgement> {
+        let (plan, table) = self.plan(words).ok_or(2_u32)?;
+        if list.iter().any(|&class| class > 2) {
+            return Err(7);
+        }
+        Ok(judge(plan, table, list))
+    }
+
+    pub fn chance(&mut self, call: &ChanceCall) -> Reply<Bounds> {
+        let (plan, table) = self.plan(&call.words).ok_or(2_u32)?;
+        if !(1..=MOST_WEIGHT).contains(&chance::sum(call.weights)) {
+            return Err(13);
+        }
+        if u64::from(call.scratch) < chance::needed(plan) {
+            return Err(14);
+        }
+        Ok(chance::bounds(plan, table, call.weights))
+    }
+
+    fn plan(&mut self, words: &[u32]) -> Option<(&Plan, &Table)> {
+        if self.kept.as_ref().is_none_or(|(kept, ..)| kept != words) {
+            let plan = Plan::admitted(words)?;
+            let table = Table::new(&plan);
+            self.kept = Some((words.to_vec(), plan, table));
+        }
+        self.kept.as_ref().map(|(_, plan, table)| (plan, table))
+    }
+}
