@@ -7,13 +7,16 @@
 //!   profiler; SUBJECT is a beginning of a line of the table.
 //! - `bench plain-lots` is the program lots by plain/.
 
-mod plain;
 mod programs;
-mod sides;
+mod side;
+mod side_ours;
+mod side_plain;
+mod side_reference;
 mod subjects;
 mod table;
 mod timing;
 
+use side::Side;
 use std::process::ExitCode;
 
 const USAGE: &str = "usage: bench LOTS REFERENCE | profile SUBJECT SIDE TIMES | plain-lots";
@@ -38,7 +41,7 @@ fn main() -> ExitCode {
 
 fn all(lots: &str, reference: &str) -> Result<(), String> {
     table::head();
-    let mut sides = sides::all();
+    let mut sides = all_sides();
     for subject in subjects::all() {
         let times = timing::of_subject(&subject, &mut sides)?;
         table::line(&subject.name, times);
@@ -46,6 +49,14 @@ fn all(lots: &str, reference: &str) -> Result<(), String> {
     let times = programs::times(lots, reference)?;
     table::line("program lots, 20,000 commands", times);
     Ok(())
+}
+
+fn all_sides() -> [Box<dyn Side>; 3] {
+    [
+        Box::new(side_ours::Ours::default()),
+        Box::new(side_plain::Plain::default()),
+        Box::new(side_reference::Reference::default()),
+    ]
 }
 
 fn profile(subject: &str, side: &str, times: &str) -> Result<(), String> {
@@ -56,7 +67,7 @@ fn profile(subject: &str, side: &str, times: &str) -> Result<(), String> {
     let names = ["ours", "plain", "reference"];
     let side = names.iter().position(|&name| name == side);
     let side = side.ok_or("SIDE is ours, plain or reference")?;
-    let side = &mut sides::all()[side];
+    let side = &mut all_sides()[side];
     for _ in 0..times {
         side.prepare(&subject.work);
         std::hint::black_box(side.run(&subject.work));

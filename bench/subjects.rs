@@ -1,29 +1,15 @@
 //! What is timed.
 
+use crate::side::Work;
 use reference::generators::draw;
 use reference::generators::full_sheets::{self, Fill};
 use reference::generators::hand_written::{LARGEST, ONE, SEVEN};
 use reference::generators::random::Random;
-use reference::model::chance::Weights;
+use reference::model::chance::MOST_SCRATCH;
 use reference::model::earliest::Table;
 use reference::model::plan::Plan;
 use reference::model::sheet_call::SheetCall;
 use std::rc::Rc;
-
-pub enum Work {
-    Judge {
-        plan: Vec<u32>,
-        list: Vec<u8>,
-    },
-    Chance {
-        plan: Vec<u32>,
-        weights: Weights,
-    },
-    Sheet {
-        before: Rc<Vec<u32>>,
-        call: SheetCall,
-    },
-}
 
 pub struct Subject {
     pub name: String,
@@ -101,6 +87,7 @@ fn chances(all: &mut Vec<Subject>) {
                 work: Work::Chance {
                     plan,
                     weights: [942_000, 3_000, 55_000],
+                    scratch: MOST_SCRATCH as usize,
                 },
             });
         }
@@ -143,7 +130,7 @@ fn calls(all: &mut Vec<Subject>, random: &mut Random, length: usize, text: &str)
 /// A decided lot and an undecided one, from the middle on.
 fn two_lots(words: &[u32], lots: &[u32]) -> (u32, u32) {
     let middle = &lots[lots.len() / 2..];
-    let state = |lot: &u32| crate::plain::sheet::look(words, *lot).map(|shown| shown[0]);
+    let state = |lot: &u32| plain::sheet::look(words, *lot).map(|shown| shown[0]);
     let find = |decided: bool| {
         let mut lots = middle.iter();
         let found = lots.find(|&lot| state(lot).is_ok_and(|state| (state != 0) == decided));

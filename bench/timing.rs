@@ -1,8 +1,8 @@
 //! Times of a call by all sides, taken in turns so that what else the machine
 //! does falls on all of them.
 
-use crate::sides::Side;
-use crate::subjects::{Subject, Work};
+use crate::side::{Side, Work};
+use crate::subjects::Subject;
 use reference::model::sheet_call::SheetCall;
 use std::hint::black_box;
 use std::time::{Duration, Instant};

@@ -1,109 +1,138 @@
-//! Bounds on the chance of acceptance. The verdicts that can still be reached
-//! stand in one layer of bytes beside the values, and go backward with them.
+//! Bounds on the chance of acceptance, by a backward induction in place: the values
+//! at y units from those at y + 1. A row has the states of one number of nongood
+//! units, by their bad units. A stage's limits say which states of a row are decided,
+//! so that only those between are reckoned.
 
-use super::plan::{Plan, ACCEPTED, REJECTED};
+use super::plan::{Limits, Plan};
 
-const UNITS: u64 = 1 << 40;
-const BOTH: u8 = (ACCEPTED | REJECTED) as u8;
+/// Low and high of a state.
+type Pair = [u64; 2];
 
-/// Cells of a layer of verdicts: counts up to the last r, which is at most 60.
-const WIDTH: usize = 61;
-type Verdicts = [[u8; WIDTH]; WIDTH];
+const ACCEPTED: Pair = [1 << 40; 2];
+const REJECTED: Pair = [0; 2];
 
-const ZEROS: [u64; 60] = [0; 60];
+/// A row past the last one: its states are rejected.
+const BEYOND: [Pair; 61] = [REJECTED; 61];
 
-#[derive(Clone, Copy)]
-struct Weights {
-    each: [u64; 3],
-    sum: u64,
-}
-
-pub fn chance(words: &[u32], weights: [u32; 3], scratch: &mut [u64], out: &mut [u64; 2]) -> u32 {
-    let Some(plan) = Plan::admitted(words) else {
-        return 2;
-    };
-    let each = weights.map(u64::from);
-    let sum = each.iter().sum();
+/// Low and high. The scratch words that the plan needs are written to.
+pub fn chance(words: &[u32], weights: [u32; 3], scratch: &mut [u64]) -> Result<Pair, u32> {
+    let plan = Plan::admitted(words).ok_or(2_u32)?;
+    let sum = weights.into_iter().map(u64::from).sum();
     if !(1..=1_000_000).contains(&sum) {
-        return 13;
+        return Err(13);
     }
-    let half = plan.last().r1 as usize * plan.last().r2 as usize;
-    if scratch.len() < 2 * half {
-        return 14;
+    let (r1, r2) = (plan.last().r1 as usize, plan.last().r2 as usize);
+    let scratch = scratch.get_mut(..2 * r1 * r2).ok_or(14_u32)?;
+    let mut layers = Layers {
+        values: scratch.as_chunks_mut().0,
+        r1,
+        r2,
+        mean: Mean::new(weights, sum),
+    };
+    // With all units read, a state below the last numbers is accepted.
+    layers.values.fill(ACCEPTED);
+    for i in (0..plan.stages().len()).rev() {
+        layers.stage(&plan, i);
     }
-    let (lows, highs) = scratch[..2 * half].split_at_mut(half);
-    lows.fill(0);
-    highs.fill(0);
-    // A count at its last r is rejected.
-    let mut verdicts = [[REJECTED as u8; WIDTH]; WIDTH];
-    for y in (0..=plan.last().end).rev() {
-        layer_of_verdicts(&plan, y, &mut verdicts);
-        layer(&plan, y, &verdicts, Weights { each, sum }, lows, highs);
-    }
-    *out = [lows[0], highs[0]];
-    0
+    Ok(layers.values[0])
 }
 
-fn layer_of_verdicts(plan: &Plan, y: u32, verdicts: &mut Verdicts) {
-    let ends = plan.stages().iter().find(|stage| stage.end == y);
-    let last = plan.last();
-    for g in 0..last.r1.min(y + 1) {
-        for b in 0..last.r2.min(g + 1) {
-            let (row, col) = (g as usize, b as usize);
-            let next = verdicts[row + 1][col] | verdicts[row + 1][col + 1];
-            verdicts[row][col] = match ends {
-                Some(stage) if stage.rejects(g, b) => REJECTED as u8,
-                Some(stage) if stage.accepts(g, b) => ACCEPTED as u8,
-                _ => verdicts[row][col] | next,
-            };
+/// The rows of a layer, one after the other: g + 1 states, at most r2.
+struct Layers<'a> {
+    values: &'a mut [Pair],
+    r1: usize,
+    r2: usize,
+    mean: Mean,
+}
+
+impl Layers<'_> {
+    /// The layers in which a stage is the current one. What is decided at its end is
+    /// decided in all of them, so that it is written there alone.
+    fn stage(&mut self, plan: &Plan, i: usize) {
+        let limits = plan.limits(i);
+        let end = plan.stages()[i].end;
+        let start = match i {
+            0 => 0,
+            _ => plan.stages()[i - 1].end + 1,
+        };
+        if end < plan.last().end {
+            self.layer(&limits, end, true);
+        }
+        for y in (start..end).rev() {
+            self.layer(&limits, y, false);
+        }
+    }
+
+    /// The values at y units. Only at the end of a stage are decided states written.
+    fn layer(&mut self, limits: &Limits, y: u32, at_end: bool) {
+        let rows = if at_end { self.r1 } else { limits.r1 as usize };
+        let mut rest = &mut *self.values;
+        for g in 0..rows.min(y as usize + 1) {
+            let (row, tail) = rest.split_at_mut(self.r2.min(g + 1));
+            let next = if g + 1 < self.r1 { &*tail } else { &BEYOND };
+            let next = &next[..self.r2.min(g + 2)];
+            let going_on = limits.going_on(y, g as u32, row.len());
+            if at_end {
+                row[..going_on.start].fill(ACCEPTED);
+                row[going_on.end..].fill(REJECTED);
+            }
+            let next = &next[going_on.start..];
+            self.mean.row(&mut row[going_on], next);
+            rest = tail;
         }
     }
 }
 
-/// The values at y units from those at y + 1, in place.
-fn layer(
-    plan: &Plan,
-    y: u32,
-    verdicts: &Verdicts,
-    w: Weights,
-    lows: &mut [u64],
-    highs: &mut [u64],
-) {
-    let (r1, r2) = (plan.last().r1 as usize, plan.last().r2 as usize);
-    for g in 0..r1.min(y as usize + 1) {
-        let (low, next_low) = rows(lows, g, r2);
-        let (high, next_high) = rows(highs, g, r2);
-        for b in 0..r2.min(g + 1) {
-            match verdicts[g][b] {
-                BOTH => {
-                    let at = |row: &[u64], next: &[u64]| {
-                        let bad = next.get(b + 1).copied().unwrap_or(0);
-                        w.each[0] * row[b] + w.each[1] * next[b] + w.each[2] * bad
-                    };
-                    low[b] = at(low, next_low) / w.sum;
-                    high[b] = (at(high, next_high) + w.sum - 1) / w.sum;
-                }
-                verdict => {
-                    let value = if u32::from(verdict) == ACCEPTED {
-                        UNITS
-                    } else {
-                        0
-                    };
-                    low[b] = value;
-                    high[b] = value;
-                }
+/// Weighted means without a division. The weights are scaled by a power of two, so that
+/// their sum has 20 bits. The reciprocal is 2^80 / sum, rounded up: reciprocal × sum is
+/// 2^80 + e with e < sum. A dividend is less than sum × (2^40 + 1), so that dividend × e
+/// is less than 2^80, and the product with the reciprocal has the exact quotient.
+struct Mean {
+    marginal: u64,
+    bad: u64,
+    sum: u64,
+    reciprocal: u64,
+}
+
+impl Mean {
+    fn new(weights: [u32; 3], sum: u64) -> Mean {
+        let shift = sum.leading_zeros() - 44;
+        let [_, marginal, bad] = weights.map(|weight| u64::from(weight) << shift);
+        let sum = sum << shift;
+        let reciprocal = (1_u128 << 80).div_ceil(u128::from(sum)) as u64;
+        Mean {
+            marginal,
+            bad,
+            sum,
+            reciprocal,
+        }
+    }
+
+    fn quotient(&self, dividend: u64) -> u64 {
+        ((u128::from(dividend) * u128::from(self.reciprocal)) >> 80) as u64
+    }
+
+    /// The mean of the values after a good, a marginal and a bad unit. A worse unit has
+    /// no higher value, so what is taken off the first is not negative.
+    fn of(&self, good: Pair, marginal: Pair, bad: Pair) -> Pair {
+        let less =
+            |i: usize| self.marginal * (good[i] - marginal[i]) + self.bad * (good[i] - bad[i]);
+        [
+            good[0] - self.quotient(less(0) + self.sum - 1),
+            good[1] - self.quotient(less(1)),
+        ]
+    }
+
+    /// The states of a row from those of the same row and of the next.
+    fn row(&self, row: &mut [Pair], next: &[Pair]) {
+        for (state, pair) in row.iter_mut().zip(next.windows(2)) {
+            *state = self.of(*state, pair[0], pair[1]);
+        }
+        // Past the last column a bad unit more is rejected.
+        if row.len() == next.len() {
+            if let (Some(state), Some(&marginal)) = (row.last_mut(), next.last()) {
+                *state = self.of(*state, marginal, REJECTED);
             }
         }
     }
-}
-
-/// The row of g nongood units and that of one more, which past the last is 0.
-fn rows(values: &mut [u64], g: usize, r2: usize) -> (&mut [u64], &[u64]) {
-    let (row, rest) = values[g * r2..].split_at_mut(r2);
-    let next = if rest.is_empty() {
-        &ZEROS[..r2]
-    } else {
-        &rest[..r2]
-    };
-    (row, next)
 }

@@ -1,71 +1,160 @@
-//! A list judged four ways in one pass.
+//! A list judged four ways. The classes of a stage are counted at once, and where
+//! a way has stopped by the end of them, its stop is found by halving: within a
+//! stage a way that has stopped stays stopped.
 
 use super::plan::{Counts, Plan, Stage, ACCEPTED, REJECTED, UNDECIDED};
 
-pub fn judge(words: &[u32], list: &[u8], out: &mut [u32; 9]) -> u32 {
-    let Some(plan) = Plan::admitted(words) else {
-        return 2;
-    };
+/// Stop and state of uncurtailed, semi, full and earliest, and the event.
+pub fn judge(words: &[u32], list: &[u8]) -> Result<[u32; 9], u32> {
+    let plan = Plan::admitted(words).ok_or(2_u32)?;
     // The greatest class, because a loop without an early return is vector code.
     if list.iter().fold(0, |most, &class| most.max(class)) > 2 {
-        return 7;
+        return Err(7);
     }
-    *out = stops(&plan, list);
-    0
+    Ok(stops(&plan, list).numbers(&plan))
 }
 
-fn stops(plan: &Plan, list: &[u8]) -> [u32; 9] {
-    let mut out = [0; 9];
-    let mut counts = Counts::default();
-    let mut left = 4;
-    let mut i = 0;
-    for &class in list.iter().take(plan.last().end as usize) {
-        counts.add(u32::from(class));
-        let stages = plan.stages();
-        if counts.units > stages[i].end {
-            i += 1;
-        }
-        for way in 0..4 {
-            if out[2 * way] != 0 {
-                continue;
-            }
-            let state = answer(plan, i, counts, way);
-            if state == UNDECIDED {
-                continue;
-            }
-            out[2 * way] = counts.units;
-            out[2 * way + 1] = state;
-            left -= 1;
-            if way == 2 && stages.len() == 1 {
-                out[8] = event(&stages[0], counts);
-            }
-        }
-        if left == 0 {
+fn stops(plan: &Plan, list: &[u8]) -> Stops {
+    let mut stops = Stops::default();
+    let mut before = Counts::default();
+    for (i, stage) in plan.stages().iter().enumerate() {
+        let (start, end) = (before.units as usize, list.len().min(stage.end as usize));
+        if start == end {
             break;
         }
+        let after = before.plus(count(&list[start..end]));
+        let run = Run {
+            list,
+            before,
+            after,
+        };
+        stops.in_stage(plan, i, &run);
+        if stops.uncurtailed.state != UNDECIDED {
+            break;
+        }
+        before = after;
     }
-    out
+    stops
 }
 
-/// What a way says: uncurtailed, semi, full, earliest.
-fn answer(plan: &Plan, i: usize, counts: Counts, way: usize) -> u32 {
-    let stage = &plan.stages()[i];
-    let Counts {
-        units,
-        nongood,
-        bad,
-    } = counts;
-    let at_end = units == stage.end;
-    let rejects = stage.rejects(nongood, bad);
-    match way {
-        0 if !at_end => UNDECIDED,
-        3 => plan.state_in(i, counts),
-        _ if rejects => REJECTED,
-        2 => {
-            let left = stage.end - units;
-            u32::from(stage.accepts(nongood + left, bad + left)) * ACCEPTED
+/// Bytes count up to 255, so that one instruction counts many classes.
+fn count(classes: &[u8]) -> Counts {
+    let mut counts = Counts::default();
+    for part in classes.chunks(255) {
+        let (mut nongood, mut bad) = (0_u8, 0_u8);
+        for &class in part {
+            nongood += u8::from(class != 0);
+            bad += u8::from(class == 2);
         }
-        _ => u32::from(at_end && stage.accepts(nongood, bad)) * ACCEPTED,
+        counts = counts.plus(Counts {
+            units: part.len() as u32,
+            nongood: u32::from(nongood),
+            bad: u32::from(bad),
+        });
+    }
+    counts
+}
+
+/// Where a way stops; undecided if it does not.
+#[derive(Clone, Copy, Default)]
+struct Stop {
+    counts: Counts,
+    state: u32,
+}
+
+/// The classes of one stage, as far as the list goes.
+struct Run<'a> {
+    list: &'a [u8],
+    before: Counts,
+    after: Counts,
+}
+
+impl Run<'_> {
+    /// The first stop of a way after `low`, where it has not stopped yet.
+    fn after(&self, mut low: Counts, way: impl Fn(Counts) -> u32) -> Stop {
+        let mut high = self.after;
+        if way(high) == UNDECIDED {
+            return Stop::default();
+        }
+        while high.units - low.units > 1 {
+            let middle = low.units.midpoint(high.units);
+            let part = &self.list[low.units as usize..middle as usize];
+            let counts = low.plus(count(part));
+            if way(counts) == UNDECIDED {
+                low = counts;
+            } else {
+                high = counts;
+            }
+        }
+        let state = way(high);
+        Stop {
+            counts: high,
+            state,
+        }
+    }
+
+    /// The first stop of a way at these counts or after them.
+    fn from(&self, counts: Counts, way: impl Fn(Counts) -> u32) -> Stop {
+        match way(counts) {
+            UNDECIDED => self.after(counts, way),
+            state => Stop { counts, state },
+        }
+    }
+}
+
+#[derive(Default)]
+struct Stops {
+    uncurtailed: Stop,
+    semi: Stop,
+    full: Stop,
+    earliest: Stop,
+}
+
+impl Stops {
+    /// Goes through a stage before which at most earliest has stopped. Full stops at
+    /// earliest's stop or after it. Semi rejects with full, and accepts with
+    /// uncurtailed.
+    fn in_stage(&mut self, plan: &Plan, i: usize, run: &Run) {
+        let stage = &plan.stages()[i];
+        let full = |counts| full(stage, counts);
+        if self.earliest.state == UNDECIDED {
+            let limits = plan.limits(i);
+            self.earliest = run.after(run.before, |counts| limits.state(counts));
+            self.full = run.from(self.earliest.counts, full);
+        } else {
+            self.full = run.after(run.before, full);
+        }
+        if self.full.state == REJECTED {
+            self.semi = self.full;
+        }
+        let (counts, state) = (run.after, full(run.after));
+        if counts.units == stage.end && state != UNDECIDED {
+            self.uncurtailed = Stop { counts, state };
+            if state == ACCEPTED {
+                self.semi = self.uncurtailed;
+            }
+        }
+    }
+
+    fn numbers(&self, plan: &Plan) -> [u32; 9] {
+        let ways = [self.uncurtailed, self.semi, self.full, self.earliest];
+        let [u, s, f, e] = ways.map(|stop| [stop.counts.units, stop.state]);
+        let event = match plan.stages() {
+            [stage] if self.full.state != UNDECIDED => event(stage, self.full.counts),
+            _ => 0,
+        };
+        [u[0], u[1], s[0], s[1], f[0], f[1], e[0], e[1], event]
+    }
+}
+
+/// What full says within a stage, and at its end uncurtailed too.
+fn full(stage: &Stage, counts: Counts) -> u32 {
+    if counts.bad >= stage.r2 || counts.nongood >= stage.r1 {
+        REJECTED
+    } else if counts.good() >= stage.end - stage.a1 && counts.nonbad() >= stage.end - stage.a2 {
+        ACCEPTED
+    } else {
+        UNDECIDED
     }
 }
 

@@ -1,8 +1,14 @@
-//! A plan's rules, and the earliest stop by the two far ends of completion.
+//! A plan's rules, and the numbers by which the earliest stop comes in a stage.
+
+use std::ops::Range;
 
 pub const UNDECIDED: u32 = 0;
 pub const ACCEPTED: u32 = 1;
 pub const REJECTED: u32 = 2;
+
+/// Words of a stage, and the most stages.
+pub const STAGE_WORDS: usize = 5;
+pub const MOST_STAGES: usize = 7;
 
 #[derive(Clone, Copy, Default)]
 pub struct Stage {
@@ -21,10 +27,21 @@ pub struct Counts {
 }
 
 impl Counts {
-    pub fn add(&mut self, class: u32) {
-        self.units += 1;
-        self.nongood += u32::from(class != 0);
-        self.bad += u32::from(class == 2);
+    /// One unit.
+    pub fn of(class: u32) -> Counts {
+        Counts {
+            units: 1,
+            nongood: u32::from(class != 0),
+            bad: u32::from(class == 2),
+        }
+    }
+
+    pub fn plus(self, other: Counts) -> Counts {
+        Counts {
+            units: self.units + other.units,
+            nongood: self.nongood + other.nongood,
+            bad: self.bad + other.bad,
+        }
     }
 
     pub fn minus(self, other: Counts) -> Counts {
@@ -35,49 +52,37 @@ impl Counts {
         }
     }
 
+    pub fn good(self) -> u32 {
+        self.units - self.nongood
+    }
+
+    pub fn nonbad(self) -> u32 {
+        self.units - self.bad
+    }
+
     pub fn classes(self) -> [u32; 3] {
-        [self.units - self.nongood, self.nongood - self.bad, self.bad]
-    }
-}
-
-impl Stage {
-    pub fn rejects(&self, nongood: u32, bad: u32) -> bool {
-        bad >= self.r2 || nongood >= self.r1
-    }
-
-    pub fn accepts(&self, nongood: u32, bad: u32) -> bool {
-        bad <= self.a2 && nongood <= self.a1
+        [self.good(), self.nongood - self.bad, self.bad]
     }
 }
 
 /// An admitted plan.
 pub struct Plan {
-    stages: [Stage; 7],
+    stages: [Stage; MOST_STAGES],
     k: usize,
 }
 
-fn apart(a: u32, r: u32, last: bool) -> bool {
-    let next = u64::from(a) + 1;
-    let r = u64::from(r);
-    if last {
-        next == r
-    } else {
-        next < r
-    }
-}
-
 impl Plan {
+    /// Inlined, so that fresh, which asks no more than this, builds no plan.
+    #[inline(always)]
     pub fn admitted(words: &[u32]) -> Option<Plan> {
-        let k = words.len() / 5;
-        if words.len() % 5 != 0 || !(1..=7).contains(&k) {
+        let (chunks, rest) = words.as_chunks::<STAGE_WORDS>();
+        let k = chunks.len();
+        if !rest.is_empty() || !(1..=MOST_STAGES).contains(&k) {
             return None;
         }
-        let mut stages = [Stage::default(); 7];
+        let mut stages = [Stage::default(); MOST_STAGES];
         let mut before = Stage::default();
-        for (i, stage) in words.chunks_exact(5).enumerate() {
-            let &[n, a1, r1, a2, r2] = stage else {
-                return None;
-            };
+        for (i, &[n, a1, r1, a2, r2]) in chunks.iter().enumerate() {
             if n == 0 || n > 1000 - before.end {
                 return None;
             }
@@ -106,23 +111,21 @@ impl Plan {
         &self.stages[self.k - 1]
     }
 
-    /// The state after these counts, if no stage that ended before has decided.
-    pub fn state(&self, counts: Counts) -> u32 {
-        let ended = |stage: &&Stage| stage.end < counts.units;
-        let first = self.stages().iter().take_while(ended).count();
-        self.state_in(first, counts)
-    }
-
-    /// As `state`, the current stage being known.
-    pub fn state_in(&self, first: usize, counts: Counts) -> u32 {
-        let rest = &self.stages()[first..];
-        if completed(rest, counts, 1) == ACCEPTED {
-            ACCEPTED
-        } else if completed(rest, counts, 0) == REJECTED {
-            REJECTED
-        } else {
-            UNDECIDED
+    /// The numbers that decide while a stage is the current one.
+    pub fn limits(&self, stage: usize) -> Limits {
+        let rest = &self.stages()[stage..];
+        let mut limits = Limits {
+            r1: rest[0].r1,
+            r2: rest[0].r2,
+            ..Limits::default()
+        };
+        let mut passing = Pair::default();
+        for stage in rest {
+            limits.add(passing.and(stage.end - stage.a1, stage.end - stage.a2));
+            let more = stage.end + 1;
+            passing = passing.and(more.saturating_sub(stage.r1), more.saturating_sub(stage.r2));
         }
+        limits
     }
 }
 
@@ -141,16 +144,84 @@ fn follows(before: &Stage, stage: &Stage, has_before: bool, last: bool) -> bool 
         && stage.a1 < stage.end
 }
 
-/// The verdict where all further units are bad (1) or good (0).
-fn completed(stages: &[Stage], counts: Counts, bad: u32) -> u32 {
-    for stage in stages {
-        let more = bad * (stage.end - counts.units);
-        if stage.rejects(counts.nongood + more, counts.bad + more) {
-            return REJECTED;
-        }
-        if stage.accepts(counts.nongood + more, counts.bad + more) {
-            return ACCEPTED;
+fn apart(a: u32, r: u32, last: bool) -> bool {
+    let next = u64::from(a) + 1;
+    let r = u64::from(r);
+    if last {
+        next == r
+    } else {
+        next < r
+    }
+}
+
+/// Good and nonbad units.
+#[derive(Clone, Copy, Default)]
+struct Pair {
+    good: u32,
+    nonbad: u32,
+}
+
+impl Pair {
+    /// At least these numbers too.
+    fn and(self, good: u32, nonbad: u32) -> Pair {
+        Pair {
+            good: self.good.max(good),
+            nonbad: self.nonbad.max(nonbad),
         }
     }
-    UNDECIDED
+
+    fn met_by(self, good: u32, nonbad: u32) -> bool {
+        good >= self.good && nonbad >= self.nonbad
+    }
+}
+
+/// When all completions have one verdict, one stage being the current one.
+///
+/// If all further units are good the counts stay, and r never falls: the plan
+/// rejects at the end of this stage or never. If all are bad, it accepts at some
+/// stage exactly if the good and nonbad units so far reach that stage's numbers,
+/// and those by which no stage before it rejects.
+#[derive(Clone, Copy, Default)]
+pub struct Limits {
+    pub r1: u32,
+    pub r2: u32,
+    pairs: [Pair; MOST_STAGES],
+    length: usize,
+}
+
+impl Limits {
+    /// Adds a pair, unless one that is met with it is there.
+    fn add(&mut self, pair: Pair) {
+        let known = |it: &Pair| it.good <= pair.good && it.nonbad <= pair.nonbad;
+        if !self.pairs().iter().any(known) {
+            self.pairs[self.length] = pair;
+            self.length += 1;
+        }
+    }
+
+    fn pairs(&self) -> &[Pair] {
+        &self.pairs[..self.length]
+    }
+
+    pub fn state(&self, counts: Counts) -> u32 {
+        if counts.bad >= self.r2 || counts.nongood >= self.r1 {
+            return REJECTED;
+        }
+        let (good, nonbad) = (counts.good(), counts.nonbad());
+        let accepts = self.pairs().iter().any(|pair| pair.met_by(good, nonbad));
+        u32::from(accepts) * ACCEPTED
+    }
+
+    /// The numbers of bad units, up to a limit, with which y units with so many nongood
+    /// ones go on. With fewer they are accepted, with more rejected.
+    pub fn going_on(&self, units: u32, nongood: u32, limit: usize) -> Range<usize> {
+        if nongood >= self.r1 {
+            return 0..0;
+        }
+        let end = limit.min(self.r2 as usize);
+        let good = units - nongood;
+        let met = self.pairs().iter().filter(|pair| good >= pair.good);
+        let accepted = met.map(|pair| (units + 1).saturating_sub(pair.nonbad));
+        end.min(accepted.max().unwrap_or(0) as usize)..end
+    }
 }

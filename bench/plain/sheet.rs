@@ -1,13 +1,24 @@
 //! The calls on a sheet, each by one walk of the records in use.
 
-use super::plan::{Counts, Plan, ACCEPTED, UNDECIDED};
+use super::plan::{Counts, Limits, Plan, ACCEPTED, MOST_STAGES, STAGE_WORDS, UNDECIDED};
+use std::ops::Range;
 
+const LEAST_WORDS: usize = 48;
+const MOST_WORDS: usize = 65_536;
+
+// Places in the head.
 const FIRST_LOT: usize = 1;
 const FIRST_FREE: usize = 2;
+const K: usize = 3;
+const STAGES: usize = 4;
 const TOTALS: usize = 39;
+const HEAD: usize = 44;
+
 const FIRST_RECORD: u32 = 11;
 const FREE: u32 = u32::MAX;
 const MOST_CLOSED: u64 = 4_000_000;
+
+type Record = [u32; 4];
 
 /// The lot that was asked for.
 #[derive(Clone, Copy)]
@@ -15,138 +26,197 @@ struct Lot {
     record: u32,
     newest: u32,
     counts: Counts,
+    state: u32,
 }
 
 /// What a walk finds on a sound sheet.
 struct Survey {
-    plan: Plan,
+    stages: usize,
     lot: Option<Lot>,
     /// The word that holds the index of the first lot from the number on.
     link: usize,
 }
 
-fn record(words: &[u32], at: u32) -> Option<&[u32; 4]> {
-    if at < FIRST_RECORD || at >= words[0] {
-        return None;
-    }
-    words[at as usize * 4..].first_chunk()
+/// A plan with the limits of its stages.
+struct Judge {
+    plan: Plan,
+    limits: [Limits; MOST_STAGES],
 }
 
-fn head(words: &[u32]) -> Option<Plan> {
-    let k = words[3] as usize;
-    if !(1..=7).contains(&k) {
+impl Judge {
+    fn new(plan: Plan) -> Judge {
+        let mut limits = [Limits::default(); MOST_STAGES];
+        for i in 0..plan.stages().len() {
+            limits[i] = plan.limits(i);
+        }
+        Judge { plan, limits }
+    }
+
+    /// How many stages end before so many units.
+    fn ended(&self, units: u32) -> usize {
+        let stages = self.plan.stages().iter();
+        stages.filter(|stage| stage.end < units).count()
+    }
+
+    fn state(&self, counts: Counts) -> u32 {
+        self.limits[self.ended(counts.units)].state(counts)
+    }
+}
+
+fn head(words: &[u32]) -> Option<Judge> {
+    let k = words[K] as usize;
+    if !(1..=MOST_STAGES).contains(&k) {
         return None;
     }
-    let (used, unused) = words[4..TOTALS].split_at(5 * k);
+    let (used, unused) = words[STAGES..TOTALS].split_at(STAGE_WORDS * k);
     let plan = Plan::admitted(used)?;
     let sum = |words: &[u32]| words.iter().map(|&word| u64::from(word)).sum::<u64>();
     let lots = sum(&words[TOTALS..TOTALS + 2]);
-    let units = sum(&words[TOTALS + 2..TOTALS + 5]);
+    let units = sum(&words[TOTALS + 2..HEAD]);
     let records = (words.len() / 4) as u32;
     let sound = unused.iter().all(|&word| word == 0)
         && (FIRST_RECORD..=records).contains(&words[0])
         && lots <= MOST_CLOSED
         && units <= 1000 * lots;
-    sound.then_some(plan)
+    sound.then(|| Judge::new(plan))
 }
 
-/// The counts of a lot's inspections, if they are sound. None may follow the
-/// earliest stop: within a stage it is enough to ask before the newest one, and
-/// the stages' ends are asked apart.
-fn inspections(words: &[u32], plan: &Plan, lot: u32, newest: u32) -> Option<Counts> {
-    let mut counts = Counts::default();
-    if newest == 0 {
-        return Some(counts);
-    }
-    let &[class, _, _, units] = record(words, newest)?;
-    if units == 0 || units > plan.last().end || class > 2 {
-        return None;
-    }
-    // Counts of the units after each end, the latest end first.
-    let mut after = [Counts::default(); 7];
-    let mut ends = plan
-        .stages()
-        .iter()
-        .filter(|stage| stage.end < units)
-        .count();
-    let passed = ends;
-    let (mut at, mut serial) = (newest, units);
-    while serial > 0 {
-        if ends > 0 && plan.stages()[ends - 1].end == serial {
-            ends -= 1;
-            after[ends] = counts;
-        }
-        let &[class, older, of, number] = record(words, at)?;
-        if class > 2 || of != lot || number != serial {
-            return None;
-        }
-        counts.add(class);
-        serial -= 1;
-        at = older;
-    }
-    let mut last = Counts::default();
-    last.add(class);
-    let undecided = |after: &Counts| plan.state(counts.minus(*after)) == UNDECIDED;
-    let sound = at == 0 && undecided(&last) && after[..passed].iter().all(undecided);
-    sound.then_some(counts)
+/// A sheet with a sound head.
+struct Sheet<'a> {
+    judge: Judge,
+    /// The records in use, those of the head too.
+    records: &'a [Record],
 }
 
-/// The number of free records.
-fn free_chain(words: &[u32]) -> Option<u32> {
-    let first = words[FIRST_FREE];
-    if first == 0 {
-        return Some(0);
+impl Sheet<'_> {
+    fn record(&self, at: u32) -> Option<&Record> {
+        let record = self.records.get(at as usize);
+        record.filter(|_| at >= FIRST_RECORD)
     }
-    let length = record(words, first)?[0];
-    let (mut at, mut depth) = (first, length);
-    while at != 0 {
-        let &[number, next, zero, tag] = record(words, at)?;
-        if number != depth || depth == 0 || zero != 0 || tag != FREE {
-            return None;
-        }
-        depth -= 1;
-        at = next;
-    }
-    (depth == 0).then_some(length)
-}
 
-fn walk(words: &[u32], number: u32) -> Option<Survey> {
-    let plan = head(words)?;
-    let mut found = None;
-    let mut link = FIRST_LOT;
-    let (mut at, mut before, mut seen) = (words[FIRST_LOT], 0, 0);
-    while at != 0 {
-        let &[lot, next, newest, zero] = record(words, at)?;
-        if lot <= before || zero != 0 {
+    /// The counts of the inspections back from `at`, whose serials are those of the
+    /// range, and the index of the one before them. Faults are gathered, so that the
+    /// loop has no other way out than an index past the records.
+    fn run(&self, lot: u32, mut at: u32, serials: Range<u32>) -> Option<(Counts, u32)> {
+        let units = serials.end - serials.start;
+        let (mut sum, mut bad, mut faults) = (0_u32, 0_u32, 0);
+        for serial in serials.rev() {
+            let &[class, older, of, number] = self.records.get(at as usize)?;
+            faults |= (of ^ lot) | (number ^ serial);
+            faults |= u32::from(class > 2) | u32::from(at < FIRST_RECORD);
+            sum = sum.wrapping_add(class);
+            bad = bad.wrapping_add(class >> 1);
+            at = older;
+        }
+        let nongood = sum.wrapping_sub(bad);
+        let counts = Counts {
+            units,
+            nongood,
+            bad,
+        };
+        (faults == 0).then_some((counts, at))
+    }
+
+    /// The counts of a lot's inspections, if they are sound. None may follow the
+    /// earliest stop: within a stage it is enough to ask before the newest one, and
+    /// the ends of stages are asked apart.
+    fn lot(&self, lot: u32, newest: u32) -> Option<Counts> {
+        if newest == 0 {
+            return Some(Counts::default());
+        }
+        let &[class, _, _, units] = self.record(newest)?;
+        if units > self.judge.plan.stages()[0].end {
+            return self.later_lot(lot, newest, Counts::of(class), units);
+        }
+        let (counts, older) = self.run(lot, newest, 1..units + 1)?;
+        let undecided = |counts| self.judge.limits[0].state(counts) == UNDECIDED;
+        let sound = older == 0 && undecided(counts.minus(Counts::of(class)));
+        sound.then_some(counts)
+    }
+
+    /// As `lot`, for one past the first stage.
+    fn later_lot(&self, lot: u32, newest: u32, last: Counts, units: u32) -> Option<Counts> {
+        let stages = self.judge.plan.stages();
+        if units > self.judge.plan.last().end {
             return None;
         }
-        let counts = inspections(words, &plan, at, newest)?;
-        seen += 1 + u64::from(counts.units);
-        if lot < number {
-            link = at as usize * 4 + 1;
-        } else if lot == number {
-            found = Some(Lot {
-                record: at,
-                newest,
-                counts,
-            });
+        let ended = self.judge.ended(units);
+        let mut after = [Counts::default(); MOST_STAGES];
+        let (mut counts, mut at, mut high) = (Counts::default(), newest, units);
+        for i in (0..=ended).rev() {
+            let low = if i == 0 { 0 } else { stages[i - 1].end };
+            let (more, older) = self.run(lot, at, low + 1..high + 1)?;
+            after[i] = counts;
+            counts = counts.plus(more);
+            (at, high) = (older, low);
         }
-        before = lot;
-        at = next;
+        after[ended] = last;
+        let undecided = |i: usize| {
+            let limits = &self.judge.limits[i];
+            limits.state(counts.minus(after[i])) == UNDECIDED
+        };
+        (at == 0 && (0..=ended).all(undecided)).then_some(counts)
     }
-    seen += u64::from(free_chain(words)?);
-    (seen == u64::from(words[0] - FIRST_RECORD)).then_some(Survey {
-        plan,
-        lot: found,
-        link,
-    })
+
+    /// The number of free records.
+    fn free(&self, first: u32) -> Option<u32> {
+        if first == 0 {
+            return Some(0);
+        }
+        let length = self.record(first)?[0];
+        if length as usize > self.records.len() {
+            return None;
+        }
+        let (mut at, mut faults) = (first, 0);
+        for depth in (1..=length).rev() {
+            let &[number, next, zero, tag] = self.records.get(at as usize)?;
+            faults |= (number ^ depth) | zero | (tag ^ FREE) | u32::from(at < FIRST_RECORD);
+            at = next;
+        }
+        (at == 0 && faults == 0).then_some(length)
+    }
+
+    /// The lots in order, and the lot of a number with its place.
+    fn survey(&self, number: u32) -> Option<Survey> {
+        let head = self.records.as_flattened();
+        let mut survey = Survey {
+            stages: self.judge.plan.stages().len(),
+            lot: None,
+            link: FIRST_LOT,
+        };
+        let (mut at, mut before, mut seen) = (head[FIRST_LOT], 0, 0);
+        while at != 0 {
+            let &[lot, next, newest, zero] = self.record(at)?;
+            if lot <= before || zero != 0 {
+                return None;
+            }
+            let counts = self.lot(at, newest)?;
+            seen += 1 + counts.units;
+            if lot < number {
+                survey.link = at as usize * 4 + 1;
+            } else if lot == number {
+                survey.lot = Some(Lot {
+                    record: at,
+                    newest,
+                    counts,
+                    state: self.judge.state(counts),
+                });
+            }
+            (before, at) = (lot, next);
+        }
+        seen += self.free(head[FIRST_FREE])?;
+        (seen == head[0] - FIRST_RECORD).then_some(survey)
+    }
 }
 
 fn survey(words: &[u32], number: u32) -> Result<Survey, u32> {
-    if !(48..=65_536).contains(&words.len()) {
+    if !(LEAST_WORDS..=MOST_WORDS).contains(&words.len()) {
         return Err(1);
     }
-    walk(words, number).ok_or(3)
+    let judge = head(words).ok_or(3_u32)?;
+    let (records, _) = words.as_chunks();
+    let records = &records[..words[0] as usize];
+    Sheet { judge, records }.survey(number).ok_or(3)
 }
 
 fn survey_lot(words: &[u32], number: u32) -> Result<(Survey, Lot), u32> {
@@ -188,14 +258,14 @@ fn release(words: &mut [u32], record: u32) {
 }
 
 pub fn fresh(words: &mut [u32], plan: &[u32]) -> Result<(), u32> {
-    if !(48..=65_536).contains(&words.len()) {
+    if !(LEAST_WORDS..=MOST_WORDS).contains(&words.len()) {
         return Err(1);
     }
     Plan::admitted(plan).ok_or(2_u32)?;
-    words[..44].fill(0);
+    words[..HEAD].fill(0);
     words[0] = FIRST_RECORD;
-    words[3] = (plan.len() / 5) as u32;
-    words[4..4 + plan.len()].copy_from_slice(plan);
+    words[K] = (plan.len() / STAGE_WORDS) as u32;
+    words[STAGES..STAGES + plan.len()].copy_from_slice(plan);
     Ok(())
 }
 
@@ -214,11 +284,11 @@ pub fn open(words: &mut [u32], number: u32) -> Result<(), u32> {
 }
 
 pub fn inspect(words: &mut [u32], number: u32, class: u32) -> Result<(), u32> {
-    let (survey, lot) = survey_lot(words, number)?;
+    let (_, lot) = survey_lot(words, number)?;
     if class > 2 {
         return Err(7);
     }
-    if survey.plan.state(lot.counts) != UNDECIDED {
+    if lot.state != UNDECIDED {
         return Err(8);
     }
     let record = take(words, [class, lot.newest, lot.record, lot.counts.units + 1])?;
@@ -238,16 +308,15 @@ pub fn strike(words: &mut [u32], number: u32) -> Result<(), u32> {
 
 pub fn close(words: &mut [u32], number: u32) -> Result<(), u32> {
     let (survey, lot) = survey_lot(words, number)?;
-    let state = survey.plan.state(lot.counts);
-    if state == UNDECIDED {
+    if lot.state == UNDECIDED {
         return Err(10);
     }
     if u64::from(words[TOTALS]) + u64::from(words[TOTALS + 1]) == MOST_CLOSED {
         return Err(12);
     }
-    words[TOTALS + (state - ACCEPTED) as usize] += 1;
+    words[TOTALS + (lot.state - ACCEPTED) as usize] += 1;
     let classes = lot.counts.classes();
-    let totals = words[TOTALS + 2..TOTALS + 5].iter_mut();
+    let totals = words[TOTALS + 2..HEAD].iter_mut();
     totals.zip(classes).for_each(|(total, more)| *total += more);
     words[survey.link] = words[lot.record as usize * 4 + 1];
     let mut at = lot.newest;
@@ -261,10 +330,9 @@ pub fn close(words: &mut [u32], number: u32) -> Result<(), u32> {
 }
 
 pub fn look(words: &[u32], number: u32) -> Result<[u32; 5], u32> {
-    let (survey, lot) = survey_lot(words, number)?;
+    let (_, lot) = survey_lot(words, number)?;
     let [good, marginal, bad] = lot.counts.classes();
-    let state = survey.plan.state(lot.counts);
-    Ok([state, lot.counts.units, good, marginal, bad])
+    Ok([lot.state, lot.counts.units, good, marginal, bad])
 }
 
 pub fn tally(words: &[u32]) -> Result<[u32; 5], u32> {
@@ -274,14 +342,13 @@ pub fn tally(words: &[u32]) -> Result<[u32; 5], u32> {
 
 pub fn estimate(words: &[u32], number: u32) -> Result<[u64; 4], u32> {
     let (survey, lot) = survey_lot(words, number)?;
-    if survey.plan.state(lot.counts) == UNDECIDED {
+    if lot.state == UNDECIDED {
         return Err(10);
     }
-    if survey.plan.stages().len() > 1 {
+    if survey.stages > 1 {
         return Err(15);
     }
-    let mut last = Counts::default();
-    last.add(words[lot.newest as usize * 4]);
+    let last = Counts::of(words[lot.newest as usize * 4]);
     let before = lot.counts.minus(last);
     let [good, marginal, bad] = before.classes().map(u64::from);
     Ok([good, marginal, bad, u64::from(before.units)])

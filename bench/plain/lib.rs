@@ -1,0 +1,9 @@
+//! The calls in plain Rust, written to be fast, with the same checks and replies
+//! as the library: what its times are compared with. tests/reference is written
+//! for clarity, so that a ratio to its times would say little.
+
+pub mod chance;
+pub mod judge;
+pub mod lots;
+mod plan;
+pub mod sheet;
