@@ -1,11 +1,16 @@
-//! Inputs for the calls: hand-written plans and lists, random ones, and the
-//! cases, scripts and sheets made of them. The same at each run.
+//! Inputs for the calls, the same at each run.
+//!
+//! - Hand-written: hand_written, plan_edges, known_lots, published.
+//! - Random: random, draw.
+//! - Made of these: plan_cases; sheet_cases and sheet_damage, by sheet_script;
+//!   more_cases; full_sheets; lots_script.
 
 pub mod draw;
 pub mod full_sheets;
 pub mod hand_written;
 pub mod known_lots;
 pub mod lots_script;
+pub mod more_cases;
 pub mod plan_cases;
 pub mod plan_edges;
 pub mod published;

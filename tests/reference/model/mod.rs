@@ -1,4 +1,10 @@
-//! What 01 says, a file for each of its parts.
+//! What 01 says.
+//!
+//! - "Plan", "Four ways to stop": plan, earliest, judge.
+//! - "Lists, events, estimates", "Chance of acceptance": judge, chance, and
+//!   plan_calls, which has their refusals.
+//! - "Sheet": layout, chains, sheet, and sheet_call, a call as a value.
+//! - "Program lots": lots.
 
 pub mod chains;
 pub mod chance;
