@@ -33,7 +33,7 @@ impl Side for Ours {
 }
 
 fn returned<const N: usize, T: Into<u64>>(reply: Reply<[T; N]>) -> Answer {
-    answer(reply.map_err(|refusal| refusal.0))
+    answer(reply.map_err(|refusal| refusal.number()))
 }
 
 fn numbers(it: Judgement) -> [u32; 9] {
