@@ -13,10 +13,10 @@ WORK = Path(os.environ["WORK"])
 Refusal = namedtuple("Refusal", "number name text")
 
 
-def refusals():
-    """The rows of the table in docs/SPECIFICATION.md, section "Refused"."""
-    page = (ROOT / "docs" / "SPECIFICATION.md").read_text(encoding="utf-8")
-    section = page.split("\n## Refused\n", 1)[1].split("\n## ", 1)[0]
+def refusals(page="docs/SPECIFICATION.md", title="Refused"):
+    """The rows of the table in a section of a page."""
+    text = (ROOT / page).read_text(encoding="utf-8")
+    section = text.split(f"\n## {title}\n", 1)[1].split("\n## ", 1)[0]
     lines = [line for line in section.splitlines() if line.startswith("|")]
     head, _, *rows = [[cell.strip() for cell in line.split("|")] for line in lines]
     number, name, when = map(head.index, ("No.", "Name", "When"))

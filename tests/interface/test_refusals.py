@@ -1,4 +1,4 @@
-"""The refusals in C, C++, Rust and Python against the table of docs/SPECIFICATION.md."""
+"""The refusals in C, C++, Rust, Python and README.md against docs/SPECIFICATION.md."""
 
 import pickle
 import re
@@ -28,7 +28,10 @@ def asked(program, numbers):
 
 class Words(unittest.TestCase):
     def test_table(self):
-        self.assertEqual([row.number for row in TABLE], list(range(1, len(TABLE) + 1)))
+        self.assertEqual(sorted(row.number for row in TABLE), list(range(1, len(TABLE) + 1)))
+
+    def test_readme(self):
+        self.assertEqual(refusals("README.md", "Refusals"), TABLE)
 
     def c_texts(self, *compiler):
         program = built(*compiler, *STRICT, "tests/interface/texts.c")
