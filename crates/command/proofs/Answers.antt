@@ -2,24 +2,14 @@
 use Prim.Native.Nat.{ℕ}
 use native.Mathlib.Omega.{arith}
 use mathlib.Core.Path.{_≡_, ap, sym, subst, _∙_}
-use mathlib.Core.Option.{none, some}
 use mathlib.Core.List.{List}
 use lib.ListN.{length}
 use Rattle.sheetmodel.specs.Calls.{Outcome}
-use Rattle.command.specs.Command.{Command, command}
-use Rattle.command.specs.Printed.{in-bytes, performed, refusal, not-a-command, answer}
+use Rattle.commandmodel.specs.Printed.{in-bytes, answer}
 use Rattle.command.specs.Written.{written, Gives}
 use Rattle.command.proofs.Writing.{fits}
 
 module _ (line w : List ℕ) where
-  pub of-command : (c : Command) → command line ≡ some c → answer line w ≡ performed c w
-  unfolding answer
-  of-command c e = rw e
-
-  pub of-none : command line ≡ none → answer line w ≡ record { reply = refusal not-a-command; words = w }
-  unfolding answer
-  of-none e = rw e
-
   -- a call's outcome o, whose reply d is printed by `bytes`
   pub by-call : (R : Type 0) (bytes : R → List ℕ) (o : Outcome R) → answer line w ≡ in-bytes bytes o → (d : R) → d ≡ o .reply
       → (out : List ℕ) (r : ℕ) → r ≡ length (bytes d) → (last : List ℕ) → last ≡ written out 0 (bytes d) → length last ≡ length out → (after : List ℕ) → after ≡ o .words

@@ -9,7 +9,7 @@ use lib.Dec.{leb}
 use lib.ListN.{length, take, drop, getD}
 use lib.Seq.{length-take-le, take-suc, getD-take}
 use borrow.Author.Tests.{le-leb, lt-leb, leb-true, leb-false, eq-eqb, ne-eqb}
-use Rattle.command.specs.Command.{Command, space, fresh, opening, inspecting, striking, looking, closing, tallying, whole-stages, forms, by-letter, numbers, of-letter, command}
+use Rattle.commandmodel.specs.Command.{Command, space, fresh, opening, inspecting, striking, looking, closing, tallying, whole-stages, forms, by-letter, numbers, of-letter, command}
 use Rattle.command.specs.Fields.{until, fields-after}
 use Rattle.command.specs.Read.{most-numbers, as-count}
 use Rattle.command.specs.declared.arguments.Count.the-variants as code

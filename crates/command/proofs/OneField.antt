@@ -9,7 +9,7 @@ use lib.ListN.{length, take, drop, getD, drop-of-length-le}
 use lib.Seq.{drop-cons}
 use lib.Dec.{eqb}
 use borrow.Author.Tests.{eq-eqb, ne-eqb}
-use Rattle.command.specs.Command.{space, fields, in-front}
+use Rattle.commandmodel.specs.Command.{space, fields, in-front}
 use Rattle.command.specs.Fields.{until, fields-after, First-field}
 
 pub first-field : First-field

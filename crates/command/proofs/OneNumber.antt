@@ -12,8 +12,8 @@ use Rattle.plan.proofs.Lists.{drop-next}
 use Rattle.command.specs.declared.arguments.Count.{Count}
 use Rattle.command.specs.declared.arguments.Count.the-variants as count
 use Rattle.command.specs.declared.decimal.Number.the-variants as number
-use Rattle.command.specs.Decimal.{number}
-use Rattle.command.specs.Command.{space, and-then, numbers}
+use Rattle.commandmodel.specs.Decimal.{number}
+use Rattle.commandmodel.specs.Command.{space, and-then, numbers}
 use Rattle.command.specs.Fields.{until, fields-after}
 use Rattle.command.specs.Read.{most-numbers, as-number, as-count}
 use Rattle.command.proofs.OneField.{first-field, until-within}

@@ -12,12 +12,13 @@ use borrow.Rule.Slice.PartAt.{part-to-end}
 use borrow.Rule.Slice.PartMut.{putMid}
 use Rattle.command.specs.declared.taking.Taken.{Taken}
 use Rattle.command.specs.Fields.{until}
-use Rattle.command.specs.Printed.{end-of-line, longest-reply, answer}
-use Rattle.command.specs.Blocks.{most-kept, kept, Fed, byte-fed, after-replies, fed, taken, Left, Progress}
+use Rattle.commandmodel.specs.Printed.{end-of-line, longest-reply, answer}
+use Rattle.commandmodel.specs.Blocks.{most-kept, kept, Fed, byte-fed, after-replies, fed, taken}
+use Rattle.command.specs.Taking.{Left, Progress}
 use Rattle.command.specs.Written.{written, Gives}
 use Rattle.command.proofs.OneField.{until-within}
 use Rattle.command.proofs.Writing.{written-nothing, written-more, length-written}
-use Rattle.command.proofs.Blocks.{kept-kept, kept-nothing, kept-within, fed-append}
+use Rattle.commandmodel.proofs.Blocks.{kept-kept, kept-nothing, kept-within, fed-append}
 
 -- ---- up to the first byte 10
 

@@ -8,11 +8,11 @@ use mathlib.Core.List.{List, [], _∷_, _++_, append-assoc, append-nil}
 use lib.ListN.{length, take, drop, getD, set, take-append-drop, length-append, length-drop}
 use lib.Seq.{set-split, length-take-le, take-all, take-at, take-suc, drop-append-add, drop-drop}
 use Rattle.sheetmodel.specs.Layout.{largest}
-use Rattle.command.specs.Decimal.{digit-byte, printed}
-use Rattle.command.specs.Command.{space}
-use Rattle.command.specs.Printed.{spaced, end-of-line, reply-line}
+use Rattle.commandmodel.specs.Decimal.{digit-byte, printed}
+use Rattle.commandmodel.specs.Command.{space}
+use Rattle.commandmodel.specs.Printed.{spaced, end-of-line, reply-line}
 use Rattle.command.specs.Written.{written}
-use Rattle.command.proofs.Digits.{printed-digit, printed-more, printed-length}
+use Rattle.commandmodel.proofs.Digits.{printed-digit, printed-more, printed-length}
 
 module _ (out : List ℕ) (at : ℕ) where
   pub written-byte : (b : ℕ) → at < length out → set out at b ≡ written out at (b ∷ [])

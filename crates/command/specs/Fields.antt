@@ -6,7 +6,7 @@ use mathlib.Core.Bool.{cond}
 use mathlib.Core.List.{List, [], _∷_}
 use lib.ListN.{take, drop}
 use lib.Dec.{eqb}
-use Rattle.command.specs.Command.{space, fields}
+use Rattle.commandmodel.specs.Command.{space, fields}
 
 -- how many bytes stand before the first byte `stop`, or in all if there is none
 unfoldable pub until : ℕ → List ℕ → ℕ

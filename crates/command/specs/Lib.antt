@@ -1,9 +1,4 @@
-pub mod Decimal
 pub mod Read
-pub mod Command
-pub mod Printed
 pub mod Fields
-pub mod Lines
-pub mod Blocks
 pub mod Written
-pub mod Laws
+pub mod Taking

@@ -11,7 +11,7 @@ use Rattle.command.specs.declared.arguments.Count.{Count}
 use Rattle.command.specs.declared.arguments.Count.the-variants as count
 use Rattle.command.specs.declared.reading.Command.{Command}
 use Rattle.command.specs.declared.reading.Command.the-variants as code
-use Rattle.command.specs.Command as command
+use Rattle.commandmodel.specs.Command as command
 
 abbrev pub as-number : Option ℕ → Number
 as-number none = number.Bad

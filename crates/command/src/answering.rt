@@ -8,7 +8,7 @@ use crate::replies::put_refusal;
 use crate::replies::put_tally;
 ghost use Prim.Native.Nat.{_≤_};
 ghost use lib.ListN.{length};
-ghost use Rattle.command.specs.Printed.{longest-reply, answer};
+ghost use Rattle.commandmodel.specs.Printed.{longest-reply, answer};
 ghost use Rattle.command.specs.Written.{Gives};
 
 // Answers a line, which is without the byte 10. The result is the number of bytes printed; the others of `out`

@@ -7,7 +7,7 @@ ghost use mathlib.Core.List.{List};
 ghost use mathlib.Core.Option.{some};
 ghost use Prim.Native.Nat.{ℕ, _≤_};
 ghost use lib.ListN.{length, take, drop};
-ghost use Rattle.command.specs.Command.{numbers};
+ghost use Rattle.commandmodel.specs.Command.{numbers};
 ghost use Rattle.command.specs.Fields.{fields-after};
 ghost use Rattle.command.specs.Read.{as-count, most-numbers};
 

@@ -1,6 +1,6 @@
 // Decimal numbers of a line. Document 01, "Program lots".
 ghost use mathlib.Core.Path.{_≡_};
-ghost use Rattle.command.specs.Decimal.{is-digit, number};
+ghost use Rattle.commandmodel.specs.Decimal.{is-digit, number};
 ghost use Rattle.command.specs.Read.{as-number};
 
 // What a field is: a number, or none.

@@ -2,8 +2,8 @@
 ghost use mathlib.Core.Path.{_≡_};
 ghost use Prim.Native.Nat.{_+_, _*_, _≤_};
 ghost use lib.ListN.{length};
-ghost use Rattle.command.specs.Decimal.{printed};
-ghost use Rattle.command.specs.Printed.{spaced};
+ghost use Rattle.commandmodel.specs.Decimal.{printed};
+ghost use Rattle.commandmodel.specs.Printed.{spaced};
 ghost use Rattle.command.specs.Written.{written};
 
 // Prints a number at a place. The result is the place after it.

@@ -5,7 +5,7 @@ use crate::fields::find;
 ghost use mathlib.Core.Path.{_≡_};
 ghost use Prim.Native.Nat.{_≤_};
 ghost use lib.ListN.{length, take};
-ghost use Rattle.command.specs.Command.{whole-stages, forms, by-letter, command};
+ghost use Rattle.commandmodel.specs.Command.{whole-stages, forms, by-letter, command};
 ghost use Rattle.command.specs.Read.{most-numbers, meaning, plan-numbers};
 
 // A command; of Fresh, how many numbers the plan has, which are in a list beside it.

@@ -8,7 +8,7 @@ use sheet::Tallied;
 ghost use mathlib.Core.Path.{_≡_};
 ghost use Prim.Native.Nat.{_+_, _*_, _≤_};
 ghost use lib.ListN.{length};
-ghost use Rattle.command.specs.Printed.{longest-reply, state-word, reply-line, refusal, done-printed, look-printed, tally-printed};
+ghost use Rattle.commandmodel.specs.Printed.{longest-reply, state-word, reply-line, refusal, done-printed, look-printed, tally-printed};
 ghost use Rattle.command.specs.Written.{written};
 
 // The most bytes that a reply has.

@@ -6,9 +6,10 @@ use crate::replies::LONGEST_REPLY;
 ghost use mathlib.Core.Path.{_≡_};
 ghost use Prim.Native.Nat.{_≤_};
 ghost use lib.ListN.{length, take};
-ghost use Rattle.command.specs.Blocks.{most-kept, kept, fed, input-ended, taken, Left, Progress};
-ghost use Rattle.command.specs.Printed.{longest-reply, answer};
+ghost use Rattle.commandmodel.specs.Blocks.{most-kept, kept, fed, input-ended, taken};
+ghost use Rattle.commandmodel.specs.Printed.{longest-reply, answer};
 ghost use Rattle.command.specs.Written.{written, Gives};
+ghost use Rattle.command.specs.Taking.{Left, Progress};
 
 // How many bytes were taken, are kept of the line that has not ended yet, and were printed.
 pub struct Taken {

@@ -5,8 +5,8 @@ use libc::STDOUT_FILENO;
 ghost use mathlib.Core.Path.{_≡_};
 ghost use Prim.Native.Nat.{_≤_};
 ghost use lib.ListN.{length};
-ghost use Rattle.command.specs.Blocks.{most-kept};
-ghost use Rattle.command.specs.Printed.{longest-reply};
+ghost use Rattle.commandmodel.specs.Blocks.{most-kept};
+ghost use Rattle.commandmodel.specs.Printed.{longest-reply};
 
 // What some input leaves: how many bytes of the line that has not ended yet are kept, and whether the
 // program ends.

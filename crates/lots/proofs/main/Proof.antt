@@ -3,7 +3,7 @@
 use Prim.Native.Nat.{_≤_}
 use native.Mathlib.Omega.{arith}
 use borrow.Author.Needs.{needs}
-use Rattle.command.specs.Blocks.{most-kept}
+use Rattle.commandmodel.specs.Blocks.{most-kept}
 use Rattle.lots.proofs.main.Statement.{statement}
 use Rattle.lots.proofs.main.Tie as tie
 

@@ -6,7 +6,7 @@ use lib.ListN.{length, length-drop}
 use lib.Seq.{length-take-le}
 use borrow.Author.Needs.{needs}
 use borrow.Rule.Slice.PartAt.{part-to-end}
-use Rattle.command.specs.Blocks.{most-kept}
+use Rattle.commandmodel.specs.Blocks.{most-kept}
 use Rattle.lots.proofs.take_block.Statement.{statement}
 use Rattle.lots.proofs.take_block.Tie as tie
 

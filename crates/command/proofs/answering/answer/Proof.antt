@@ -12,8 +12,8 @@ use Rattle.sheetmodel.specs.declared.reply.Looked.{Looked}
 use Rattle.sheetmodel.specs.declared.reply.Tallied.{Tallied}
 use Rattle.sheetmodel.specs.Calls as calls
 use Rattle.command.specs.declared.reading.Command.{Command}
-use Rattle.command.specs.Command as command
-use Rattle.command.specs.Printed.{in-bytes, refusal, not-a-command, done-printed, look-printed, tally-printed, performed, answered, answer}
+use Rattle.commandmodel.specs.Command as command
+use Rattle.commandmodel.specs.Printed.{in-bytes, refusal, not-a-command, done-printed, look-printed, tally-printed, performed, answered, answer}
 use Rattle.command.specs.Read.{most-numbers, meaning, plan-numbers}
 use Rattle.command.specs.Written.{written, Gives}
 use Rattle.sheetmodel.proofs.Corollaries.{look-words, tally-words}

@@ -4,7 +4,7 @@ use native.Mathlib.Omega.{arith}
 use mathlib.Core.Path.{sym, _∙_}
 use lib.ListN.{length, length-drop, drop}
 use borrow.Author.Needs.{needs}
-use Rattle.command.specs.Command.{space}
+use Rattle.commandmodel.specs.Command.{space}
 use Rattle.command.proofs.OneField.{until-within}
 use Rattle.command.proofs.OneNumber.{Reading, started, no-room, all-numbers, bad-number, next-number}
 use Rattle.command.proofs.arguments.read_numbers.Statement.{statement}

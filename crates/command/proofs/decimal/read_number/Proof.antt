@@ -7,9 +7,9 @@ use mathlib.Core.Path.{_≡_, ap, sym, _∙_}
 use lib.ListN.{length, getD, drop}
 use borrow.Author.Needs.{needs}
 use borrow.Author.Tests.{not-true, not-false}
-use Rattle.command.specs.Decimal.{is-digit, with-digits, up-to-largest}
+use Rattle.commandmodel.specs.Decimal.{is-digit, with-digits, up-to-largest}
 use Rattle.command.specs.Read.{as-number}
-use Rattle.command.proofs.Digits.{no-field, long-field, field-value, next-digit, no-digit, digit-below, digit-bounds, all-digits, above-largest, within-largest}
+use Rattle.commandmodel.proofs.Digits.{no-field, long-field, field-value, next-digit, no-digit, digit-below, digit-bounds, all-digits, above-largest, within-largest}
 use Rattle.command.proofs.decimal.read_number.Statement.{statement}
 use Rattle.command.proofs.decimal.read_number.Tie as tie
 

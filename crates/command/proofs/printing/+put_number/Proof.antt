@@ -6,7 +6,7 @@ use mathlib.Core.Path.{_≡_}
 use lib.ListN.{length}
 use borrow.Fn.Kinds.{In}
 use borrow.Fn.PlainCycle.{Measures, is, falls, and}
-use Rattle.command.specs.Decimal.{printed}
+use Rattle.commandmodel.specs.Decimal.{printed}
 use Rattle.command.proofs.Writing.{one-digit-fits, one-digit-written, one-more-digit, last-digit-written}
 use Rattle.command.proofs.printing.put_number.Reads as put-number
 use Rattle.command.proofs.printing.put_number.Kinds as kinds

@@ -5,7 +5,7 @@ use mathlib.Core.Path.{_≡_, sym, _∙_}
 use mathlib.Core.List.{List}
 use lib.ListN.{length, take, getD}
 use borrow.Author.Needs.{needs}
-use Rattle.command.specs.Command.{space, forms, by-letter, command}
+use Rattle.commandmodel.specs.Command.{space, forms, by-letter, command}
 use Rattle.command.specs.Fields.{until}
 use Rattle.command.specs.Read.{most-numbers}
 use Rattle.command.proofs.Letters.{too-long, no-letter-field, some-byte, bad-numbers, good-numbers}

@@ -3,7 +3,7 @@ use native.Mathlib.Omega.{arith}
 use mathlib.Core.Path.{_∙_}
 use lib.ListN.{length-set}
 use borrow.Author.Needs.{needs}
-use Rattle.command.specs.Printed.{end-of-line}
+use Rattle.commandmodel.specs.Printed.{end-of-line}
 use Rattle.command.proofs.Writing.{line-room, line-length, line-written}
 use Rattle.command.proofs.replies.put_line.Statement.{statement}
 use Rattle.command.proofs.replies.put_line.Tie as tie

@@ -6,9 +6,9 @@ use mathlib.Core.List.{List}
 use lib.ListN.{take}
 use lib.Seq.{length-take-le}
 use borrow.Author.Needs.{needs}
-use Rattle.command.specs.Printed.{answer}
-use Rattle.command.specs.Blocks.{kept}
-use Rattle.command.proofs.Blocks.{kept-law, kept-within}
+use Rattle.commandmodel.specs.Printed.{answer}
+use Rattle.commandmodel.specs.Blocks.{kept}
+use Rattle.commandmodel.proofs.Blocks.{kept-law, kept-within}
 use Rattle.command.proofs.Answers.{gives-as}
 use Rattle.command.proofs.Pieces.{whole-line}
 use Rattle.command.proofs.taking.answer_line.Statement.{statement}

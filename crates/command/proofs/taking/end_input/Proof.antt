@@ -7,8 +7,8 @@ use lib.ListN.{length, take}
 use lib.Seq.{length-take-le}
 use borrow.Author.Needs.{needs}
 use borrow.Author.Tests.{ne-eqb}
-use Rattle.command.specs.Printed.{answer}
-use Rattle.command.specs.Blocks.{input-ended}
+use Rattle.commandmodel.specs.Printed.{answer}
+use Rattle.commandmodel.specs.Blocks.{input-ended}
 use Rattle.command.specs.Written.{Gives}
 use Rattle.command.proofs.Answers.{gives-as}
 use Rattle.command.proofs.Writing.{written-nothing}

@@ -4,8 +4,8 @@ use native.Mathlib.Omega.{arith}
 use mathlib.Core.Path.{_≡_, ap, _∙_}
 use lib.ListN.{length, length-drop}
 use borrow.Rule.Slice.PartAt.{part-to-end}
-use Rattle.command.specs.Blocks.{most-kept}
-use Rattle.command.specs.Printed.{longest-reply}
+use Rattle.commandmodel.specs.Blocks.{most-kept}
+use Rattle.commandmodel.specs.Printed.{longest-reply}
 use Rattle.command.proofs.Pieces.{Taking, begins, replies-length, short-of-room, all-taken, inside, last-bytes, next-line}
 use Rattle.command.proofs.taking.take_bytes.Statement.{statement}
 use Rattle.command.proofs.taking.take_bytes.Tie as tie

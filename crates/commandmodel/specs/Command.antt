@@ -5,7 +5,7 @@ use mathlib.Core.Option.{Option, none, some}
 use mathlib.Core.List.{List, [], _∷_}
 use lib.ListN.{length, getD}
 use lib.Dec.{leb, eqb}
-use Rattle.command.specs.Decimal.{number}
+use Rattle.commandmodel.specs.Decimal.{number}
 
 -- ---- the fields of a line, parted by one space
 

@@ -4,8 +4,8 @@ use mathlib.Core.Bool.{cond}
 use mathlib.Core.List.{List, [], _∷_, _++_}
 use lib.Dec.{eqb}
 use Rattle.sheetmodel.specs.Calls.{Outcome}
-use Rattle.command.specs.Command.{in-front}
-use Rattle.command.specs.Printed.{end-of-line, answer}
+use Rattle.commandmodel.specs.Command.{in-front}
+use Rattle.commandmodel.specs.Printed.{end-of-line, answer}
 
 -- lines end in byte 10; bytes after the last byte 10, if any, are a line
 unfoldable pub lines : List ℕ → List (List ℕ)

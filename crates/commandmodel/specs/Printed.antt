@@ -11,8 +11,8 @@ use Rattle.sheetmodel.specs.declared.reply.Looked.the-variants as looked
 use Rattle.sheetmodel.specs.declared.reply.Tallied.{Tallied}
 use Rattle.sheetmodel.specs.declared.reply.Tallied.the-variants as tallied
 use Rattle.sheetmodel.specs.Calls.{Outcome, fresh, open-lot, inspect, strike, close, look, tally}
-use Rattle.command.specs.Decimal.{printed}
-use Rattle.command.specs.Command as command
+use Rattle.commandmodel.specs.Decimal.{printed}
+use Rattle.commandmodel.specs.Command as command
 
 -- ---- the words, in bytes
 

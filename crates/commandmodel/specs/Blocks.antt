@@ -1,16 +1,14 @@
 -- An input that comes in blocks: of the line that has not ended yet the first bytes are kept, and a block is taken while
 -- there is room for replies. That the replies do not depend on the blocks is proved in proofs/Blocks.antt.
-use Prim.Native.Nat.{ℕ, suc, _-_, _≤_}
+use Prim.Native.Nat.{ℕ, suc, _-_}
 use mathlib.Core.Path.{_≡_}
 use mathlib.Core.Bool.{cond}
 use mathlib.Core.List.{List, [], _∷_, _++_}
 use lib.ListN.{length, take}
 use lib.Dec.{leb, eqb}
 use Rattle.sheetmodel.specs.Calls.{Outcome}
-use Rattle.command.specs.declared.taking.Taken.{Taken}
-use Rattle.command.specs.Printed.{end-of-line, longest-reply, answer}
-use Rattle.command.specs.Lines.{replied, session}
-use Rattle.command.specs.Written.{written}
+use Rattle.commandmodel.specs.Printed.{end-of-line, longest-reply, answer}
+use Rattle.commandmodel.specs.Lines.{replied, session}
 
 -- ---- a block
 
@@ -75,18 +73,3 @@ taken room line w [] = 0
 taken room line w (b ∷ bs) =
     let f : Fed = byte-fed line w b in
     cond (leb longest-reply room) (suc (taken (room - length (f .replies)) (f .line) (f .words) bs)) 0
-
--- what the code leaves: its result, the kept bytes, the words and the replies; other bytes stay as they are
-pub record Left (f : Fed) (line replies : List ℕ) (r : Taken) (line′ w′ replies′ : List ℕ) : Type 0 where
-  pub line-length : r .line ≡ length (f .line)
-  pub line-bytes : line′ ≡ written line 0 (f .line)
-  pub words : w′ ≡ f .words
-  pub reply-length : r .replies ≡ length (f .replies)
-  pub reply-bytes : replies′ ≡ written replies 0 (f .replies)
-
--- how much that is: some byte is taken if there is one, and room for a reply
-pub record Progress (block replies : List ℕ) (r : Taken) : Type 0 where
-  pub bytes-within : r .bytes ≤ length block
-  pub line-within : r .line ≤ most-kept
-  pub replies-within : r .replies ≤ length replies
-  pub some-byte : longest-reply ≤ length replies → 1 ≤ length block → 1 ≤ r .bytes

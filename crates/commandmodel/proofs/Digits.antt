@@ -13,7 +13,7 @@ use lib.Dec.{leb, ltb}
 use borrow.Author.Tests.{le-leb, lt-leb, lt-ltb, le-ltb, ltb-true, ltb-false, leb-true}
 use Rattle.plan.proofs.Bools.{and-left, and-right}
 use Rattle.sheetmodel.specs.Layout.{largest}
-use Rattle.command.specs.Decimal.{zero-byte, digit-byte, is-digit, with-digit, with-digits, up-to-largest, number, digits, printed, Read-back}
+use Rattle.commandmodel.specs.Decimal.{zero-byte, digit-byte, is-digit, with-digit, with-digits, up-to-largest, number, digits, printed, Read-back}
 
 -- ---- one digit more at the end
 

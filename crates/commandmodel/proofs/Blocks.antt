@@ -10,10 +10,10 @@ use lib.Seq.{take-all, length-take-le}
 use lib.Dec.{leb, eqb}
 use borrow.Author.Tests.{lt-leb, ne-eqb, leb-true, leb-false}
 use Rattle.sheetmodel.specs.Calls.{Outcome}
-use Rattle.command.specs.Command.{longest-line, in-front, fields, of-fields, command}
-use Rattle.command.specs.Printed.{end-of-line, answered, answer}
-use Rattle.command.specs.Lines.{lines, replied, answers, session}
-use Rattle.command.specs.Blocks.{most-kept, kept, Fed, byte-fed, after-replies, fed, input-ended, blocks-fed, joined, Block-law, Kept-law}
+use Rattle.commandmodel.specs.Command.{longest-line, in-front, fields, of-fields, command}
+use Rattle.commandmodel.specs.Printed.{end-of-line, answered, answer}
+use Rattle.commandmodel.specs.Lines.{lines, replied, answers, session}
+use Rattle.commandmodel.specs.Blocks.{most-kept, kept, Fed, byte-fed, after-replies, fed, input-ended, blocks-fed, joined, Block-law, Kept-law}
 
 -- ---- what is kept of a line
 

@@ -4,8 +4,8 @@ use mathlib.Core.Path.{_≡_}
 use mathlib.Core.Option.{none, some}
 use mathlib.Core.List.{List}
 use lib.ListN.{length}
-use Rattle.command.specs.Command.{Command, command}
-use Rattle.command.specs.Printed.{longest-reply, performed, refusal, not-a-command, answer}
+use Rattle.commandmodel.specs.Command.{Command, command}
+use Rattle.commandmodel.specs.Printed.{longest-reply, performed, refusal, not-a-command, answer}
 
 pub record Line-laws (line w : List ℕ) : Type 0 where
   -- a command makes its call

@@ -1,7 +1,7 @@
 -- The laws of a line. Assumes nothing.
 use Prim.Native.Nat.{ℕ, zero, suc, _+_, _*_, _/_, _%_, _≤_}
 use native.Mathlib.Omega.{arith}
-use mathlib.Core.Path.{ap}
+use mathlib.Core.Path.{_≡_, ap}
 use mathlib.Core.Bool.{Bool, true, false, cond}
 use mathlib.Core.Option.{Option, none, some}
 use mathlib.Core.List.{List, [], _∷_, _++_}
@@ -16,12 +16,11 @@ use Rattle.sheetmodel.specs.declared.reply.Looked.the-variants as looked
 use Rattle.sheetmodel.specs.declared.reply.Tallied.{Tallied}
 use Rattle.sheetmodel.specs.declared.reply.Tallied.the-variants as tallied
 use Rattle.sheetmodel.specs.Calls.{Outcome, fresh, open-lot, inspect, strike, close, look, tally}
-use Rattle.command.specs.Decimal.{digit-byte, digits, most-digits, printed}
-use Rattle.command.specs.Command as command
-use Rattle.command.specs.Command.{space}
-use Rattle.command.specs.Printed.{no-word, ok-word, tally-word, state-word, spaced, end-of-line, longest-reply, reply-line, refusal, not-a-command, done-printed, look-printed, tally-printed, performed, answered, answer}
-use Rattle.command.specs.Laws.{Line-laws}
-use Rattle.command.proofs.Answers.{of-command, of-none}
+use Rattle.commandmodel.specs.Decimal.{digit-byte, digits, most-digits, printed}
+use Rattle.commandmodel.specs.Command as command
+use Rattle.commandmodel.specs.Command.{space}
+use Rattle.commandmodel.specs.Printed.{no-word, ok-word, tally-word, state-word, spaced, end-of-line, longest-reply, reply-line, refusal, not-a-command, done-printed, look-printed, tally-printed, performed, answered, answer}
+use Rattle.commandmodel.specs.Laws.{Line-laws}
 
 -- ---- how long a reply is
 
@@ -86,6 +85,15 @@ unfolding answer
 answer-length line w = answered-length (command.command line) w
 
 -- ---- the laws
+
+module _ (line w : List ℕ) where
+  of-command : (c : command.Command) → command.command line ≡ some c → answer line w ≡ performed c w
+  unfolding answer
+  of-command c e = rw e
+
+  of-none : command.command line ≡ none → answer line w ≡ record { reply = refusal not-a-command; words = w }
+  unfolding answer
+  of-none e = rw e
 
 pub line-laws : (line w : List ℕ) → Line-laws line w
 line-laws line w = record {
