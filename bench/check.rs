@@ -1,5 +1,5 @@
 //! Compares plain/ with the reference on the cases that crates/vectors and
-//! crates/sheetvectors answer, on a few more, and on the script of the program lots: its
+//! crates/sheetvectors answer, and on the script of the program lots: its
 //! times count only if its answers are right. bench/check builds and runs it.
 
 mod side;
@@ -7,7 +7,7 @@ mod side_plain;
 mod side_reference;
 
 use plain::lots::Session;
-use reference::generators::{lots_script, more_cases, plan_cases, sheet_cases};
+use reference::generators::{lots_script, plan_cases, sheet_cases};
 use reference::lines::plan_lines::Case;
 use reference::lines::sheet_lines::Command;
 use reference::model::lots;
@@ -64,10 +64,7 @@ impl Sides {
     }
 
     fn stored_plans(&mut self) -> Compared {
-        for line in plan_cases::all()
-            .into_iter()
-            .chain(more_cases::plan_lines())
-        {
+        for line in plan_cases::all() {
             let work = match Case::parse(&line)? {
                 Case::Admission(plan) => Work::Judge { plan, list: vec![] },
                 Case::Judged(list, plan) => Work::Judge { plan, list },
@@ -84,10 +81,7 @@ impl Sides {
 
     fn stored_sheets(&mut self) -> Compared {
         let mut words = vec![];
-        for line in sheet_cases::all()
-            .into_iter()
-            .chain(more_cases::sheet_lines())
-        {
+        for line in sheet_cases::all() {
             match Command::parse(&line)? {
                 Command::Write(write) => write.make(&mut words),
                 Command::Call(call) => {

@@ -7,7 +7,7 @@ use reference::generators::hand_written::{
 };
 use reference::generators::plan_edges::edges;
 use reference::generators::random::Random;
-use reference::generators::{draw, more_cases, plan_cases};
+use reference::generators::{draw, plan_cases};
 use reference::lines::plan_lines::Case;
 use reference::model::chance::MOST_SCRATCH;
 use reference::model::earliest::Table;
@@ -27,12 +27,9 @@ pub fn all(comparer: &mut Comparer) -> Compared {
     weights_and_scratch(comparer, random)
 }
 
-/// The cases that crates/vectors answers, and a few more.
+/// The cases that crates/vectors answers.
 fn stored_cases(comparer: &mut Comparer) -> Compared {
-    for line in plan_cases::all()
-        .into_iter()
-        .chain(more_cases::plan_lines())
-    {
+    for line in plan_cases::all() {
         match Case::parse(&line)? {
             Case::Admission(words) => plan(comparer, &words)?,
             Case::Judged(list, words) => comparer.judge(&words, &list)?,

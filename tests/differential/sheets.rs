@@ -4,7 +4,7 @@ use crate::compare::{Compared, Comparer};
 use reference::generators::full_sheets::{self, Fill};
 use reference::generators::hand_written::{A, B, ONE, SEVEN, TWO, UNIT};
 use reference::generators::random::Random;
-use reference::generators::{draw, more_cases, sheet_cases};
+use reference::generators::{draw, sheet_cases};
 use reference::lines::sheet_lines::Command;
 use reference::model::layout::*;
 use reference::model::sheet_call::SheetCall;
@@ -20,12 +20,9 @@ pub fn all(comparer: &mut Comparer) -> Compared {
     nearly_full(comparer, random)
 }
 
-/// The command lines that crates/sheetvectors answers, and a few more.
+/// The command lines that crates/sheetvectors answers.
 fn stored_cases(comparer: &mut Comparer) -> Compared {
-    for line in sheet_cases::all()
-        .into_iter()
-        .chain(more_cases::sheet_lines())
-    {
+    for line in sheet_cases::all() {
         match Command::parse(&line)? {
             Command::Call(call) => comparer.on_sheet(&call)?,
             Command::Write(write) => write.make(&mut comparer.sheet.words),

@@ -3,14 +3,13 @@
 //! - Hand-written: hand_written, plan_edges, known_lots, published.
 //! - Random: random, draw.
 //! - Made of these: plan_cases; sheet_cases and sheet_damage, by sheet_script;
-//!   more_cases; full_sheets; lots_script.
+//!   full_sheets; lots_script.
 
 pub mod draw;
 pub mod full_sheets;
 pub mod hand_written;
 pub mod known_lots;
 pub mod lots_script;
-pub mod more_cases;
 pub mod plan_cases;
 pub mod plan_edges;
 pub mod published;

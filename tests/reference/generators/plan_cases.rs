@@ -30,6 +30,7 @@ pub fn all() -> Vec<String> {
     cases.chances_at_limits();
     cases.refused_chances();
     cases.random_chances();
+    cases.long_lists();
     let mut seen = HashSet::new();
     cases.lines.retain(|line| seen.insert(line.clone()));
     cases.lines
@@ -53,6 +54,17 @@ impl Cases {
     /// A list written as in a case line.
     fn listed(&mut self, list: &str, words: &[u32]) {
         self.lines.push(format!("j {list}{}", fields(words)));
+    }
+
+    /// Lists of one class that are longer than a byte can count.
+    fn long_lists(&mut self) {
+        for words in LARGEST {
+            for class in ["0", "1", "2"] {
+                for length in [254, 255, 256, 257, 511, 512, 513] {
+                    self.listed(&format!(".{}", class.repeat(length)), words);
+                }
+            }
+        }
     }
 
     fn chance(&mut self, weights: Weights, scratch: u32, words: &[u32]) {

@@ -73,6 +73,9 @@ pub fn all() -> Vec<String> {
     script.full_of_lots();
     script.full_of_free_records();
     script.longest_lots();
+    script.older_before_the_first_record();
+    script.next_before_the_first_record();
+    script.decided_at_a_stage_end();
     script.finish()
 }
 
