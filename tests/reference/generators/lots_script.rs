@@ -1,6 +1,7 @@
 //! A script for the program `lots`: the listing of 01, each bad form of a line,
 //! each refusal that the program can give, a sheet filled and emptied, random lines,
-//! and many short lines with longer replies. The last line lacks its byte 10.
+//! many short lines with longer replies, and lines over the end of a block. The last
+//! line lacks its byte 10.
 
 use super::random::Random;
 use crate::model::layout::{records, FIRST_RECORD, PROGRAM_WORDS};
@@ -22,7 +23,8 @@ pub fn all() -> Vec<u8> {
         random(&mut script, seed);
     }
     crowded(&mut script);
-    script.extend(b"t");
+    other_letters(&mut script);
+    over_block_ends(&mut script);
     script
 }
 
@@ -107,28 +109,30 @@ fn forms(script: &mut Vec<u8>) {
 /// A plan of seven stages on a line of the most bytes, which is a command, and on a
 /// line of one more, which is not.
 fn wide_plans(script: &mut Vec<u8>) {
-    let plan: Vec<u32> = (0..7)
-        .flat_map(|i| {
-            if i < 6 {
-                [9, i, 9 + i, i, 9 + i]
-            } else {
-                [9, 15, 16, 15, 16]
-            }
-        })
-        .collect();
     for length in [LINE_BYTES, LINE_BYTES + 1] {
-        let mut spare = length - 1 - 35 * 7;
-        let mut text = "p".to_string();
-        for number in &plan {
-            let more = spare.min(4);
-            spare -= more;
-            text.push_str(&format!(" {number:0width$}", width = 6 + more));
-        }
-        assert_eq!(text.len(), length);
-        line(script, &text);
+        line(script, &wide_plan(length));
         line(script, "o 5");
         line(script, "l 5");
     }
+}
+
+fn wide_plan(length: usize) -> String {
+    let plan = (0..7).flat_map(|i| {
+        if i < 6 {
+            [9, i, 9 + i, i, 9 + i]
+        } else {
+            [9, 15, 16, 15, 16]
+        }
+    });
+    let mut spare = length - 1 - 35 * 7;
+    let mut text = "p".to_string();
+    for number in plan {
+        let more = spare.min(4);
+        spare -= more;
+        text.push_str(&format!(" {number:0width$}", width = 6 + more));
+    }
+    assert_eq!(text.len(), length);
+    text
 }
 
 /// Each refusal in turn, and what is granted around it; two plans.
@@ -213,4 +217,44 @@ fn crowded(script: &mut Vec<u8>) {
     for _ in 0..2_500 {
         line(script, "t");
     }
+}
+
+/// Each byte that is no command's letter, before so many numbers as a command takes,
+/// with a decided lot; and the bytes beside the digits.
+fn other_letters(script: &mut Vec<u8>) {
+    for text in [PLAN_A, "o 1", "i 1 2", "i 1 2", "l 1"] {
+        line(script, text);
+    }
+    for byte in (b'!'..=b'~').filter(|byte| !b"poislct".contains(byte)) {
+        let letter = char::from(byte);
+        for numbers in ["", " 1", " 1 0", " 5 2 3 1 2"] {
+            line(script, &format!("{letter}{numbers}"));
+        }
+    }
+    for text in ["o 2/", "o 2:", "l 2", "l 1", "t"] {
+        line(script, text);
+    }
+}
+
+/// The program reads blocks of so many bytes.
+const BLOCK: usize = 4096;
+
+/// One line more, so that so many bytes are left of the block.
+fn left_of_block(script: &mut Vec<u8>, bytes: usize) {
+    let spare = 2 * BLOCK - bytes - 1 - script.len() % BLOCK;
+    line(script, &"x".repeat(spare % BLOCK));
+    assert_eq!(script.len() % BLOCK, (BLOCK - bytes) % BLOCK);
+}
+
+/// Lines that a block ends in: too long by one byte, and by many that are read before
+/// it ends; last the line that lacks its byte 10.
+fn over_block_ends(script: &mut Vec<u8>) {
+    left_of_block(script, 100);
+    line(script, &(wide_plan(LINE_BYTES) + "0"));
+    line(script, "l 1");
+    left_of_block(script, 300);
+    script.extend([b'x'; 300]);
+    line(script, "t");
+    left_of_block(script, 6);
+    script.extend(b"l 4294967295");
 }

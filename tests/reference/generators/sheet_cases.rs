@@ -76,6 +76,8 @@ pub fn all() -> Vec<String> {
     script.older_before_the_first_record();
     script.next_before_the_first_record();
     script.decided_at_a_stage_end();
+    script.past_the_first_stage();
+    script.not_by_a_count();
     script.finish()
 }
 

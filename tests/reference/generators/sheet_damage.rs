@@ -222,4 +222,32 @@ impl Script {
         }
         self.lines("t, l 3, i 3 0");
     }
+
+    /// Damage of lots past their first stage: decided at its end, decided in the second
+    /// stage, and a chain that goes on; last decided at the first end of three alone.
+    pub fn past_the_first_stage(&mut self) {
+        self.fresh(room(10), 0, &[3, 0, 2, 0, 2, 4, 2, 3, 1, 2]);
+        self.lot(8, &[1, 0, 0, 0, 0]);
+        self.lines("p @1.0 0, t, p @1.0 1, p @1.1 @0, t, p @1.1 0, t");
+        self.lines("p @1.0 2, p @4.0 2, t, l 8");
+        self.fresh(room(10), 0, &[2, 0, 2, 0, 2, 2, 0, 3, 0, 2, 4, 2, 3, 1, 2]);
+        self.lot(8, &[1, 0, 0, 0, 0, 0, 0]);
+        self.lines("t, p @1.0 0, p @3.0 1, t, l 8");
+    }
+
+    /// Damage in two places, of which neither shows by a number of records: two classes
+    /// above the highest, a lot's record as its inspection, a unit after the first one
+    /// stopped, and a chain through the last record, which is not whole.
+    pub fn not_by_a_count(&mut self) {
+        self.fresh(room(5), 0, A);
+        self.lines("o 3, i 3 0, o 5, i 5 0, p @1.0 3, p @3.0 3, t, l 3, l 5");
+        self.fresh(room(5), 0, A);
+        self.lines("o 5, p @0.2 @0, t, l 5, i 5 0");
+        self.fresh(room(5), 0, &[2, 0, 1, 0, 1]);
+        self.lines("o 5, i 5 0, i 5 0, t, p @1.0 1, t, l 5");
+        self.line(&format!("n {} 0", room(6)));
+        self.fresh(room(6) - 1, 0, UNIT);
+        self.lines("o 1, o 2, o 3, o 4, o 5, t");
+        self.lines("p @4.1 @5, p @5.0 9, p @5.1 0, p @5.2 0, p next-unused @6, t, l 5");
+    }
 }
