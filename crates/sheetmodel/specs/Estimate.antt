@@ -1,5 +1,6 @@
 -- Estimates. Document 01, "Lists, events, estimates"; 002, 8.3.
-use Prim.Native.Nat.{ℕ, _-_}
+use Prim.Native.Nat.{ℕ, _+_, _-_}
+use mathlib.Core.Path.{_≡_}
 use mathlib.Core.List.{List}
 use lib.ListN.{length}
 use Rattle.plan.specs.Plan.{Stage, stages}
@@ -23,6 +24,10 @@ estimate-of p h = record {
   bad = counts (without-last h) .bad;
   over = length h - 1;
 }
+
+-- the three counts add to their number: proved in proofs/Estimate.antt
+abbrev pub Adds-up : Type 0
+Adds-up = (p : List Stage) (h : List ℕ) → estimate-of p h .good + estimate-of p h .marginal + estimate-of p h .bad ≡ estimate-of p h .over
 
 unfoldable pub estimate-rows : ℕ → List ℕ → List Refusal
 estimate-rows n w = sheet-rows w (lot-rows (standing n w) (estimate-own (plan-words w) (standing n w)))
