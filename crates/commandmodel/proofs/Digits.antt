@@ -1,10 +1,10 @@
--- A number printed is read back as itself. Assumes nothing.
+-- A number printed is read back as itself; what is known of a field that is a number. Assumes nothing.
 use Prim.Native.Nat.{ℕ, zero, suc, _+_, _/_, _%_, _^_, _≤_, _<_}
 use native.Mathlib.Omega.{arith}
 use native.Mathlib.Nat.{pow-suc, pow-zero, pow-le-pow-right}
 use native.Mathlib.Numerals.{add-one}
 use mathlib.Core.Path.{_≡_, refl, ap, sym, _∙_}
-use mathlib.Core.Bool.{Bool, true, false, cond, and-false}
+use mathlib.Core.Bool.{Bool, true, false, cond, _&&_, and-false}
 use mathlib.Core.Option.{Option, none, some}
 use mathlib.Core.List.{List, [], _∷_, _++_}
 use lib.ListN.{length, getD, drop, length-append, drop-of-length-le}
@@ -13,7 +13,7 @@ use lib.Dec.{leb, ltb}
 use borrow.Author.Tests.{le-leb, lt-leb, lt-ltb, le-ltb, ltb-true, ltb-false, leb-true}
 use Rattle.plan.proofs.Bools.{and-left, and-right}
 use Rattle.sheetmodel.specs.Layout.{largest}
-use Rattle.commandmodel.specs.Decimal.{zero-byte, digit-byte, is-digit, with-digit, with-digits, up-to-largest, number, digits, printed, Read-back}
+use Rattle.commandmodel.specs.Decimal.{most-digits, zero-byte, digit-byte, is-digit, with-digit, with-digits, up-to-largest, number, digits, printed, Read-back, Number-laws}
 
 -- ---- one digit more at the end
 
@@ -159,3 +159,35 @@ above-largest n h = rw (lt-leb n largest h)
 
 pub within-largest : (n : ℕ) → n ≤ largest → up-to-largest (some n) ≡ some n
 within-largest n h = rw (le-leb n largest h)
+
+-- ---- what is known of a field that is a number
+
+some-is : {a b : ℕ} → _≡_ {A = Option ℕ} (some a) (some b) → a ≡ b
+some-is e = cc
+
+up-to : (o : Option ℕ) (n : ℕ) → up-to-largest o ≡ some n → n ≤ largest
+up-to none n e = let z : _≡_ {A = ℕ} 0 1 = cc in absurd (omega arith)
+up-to (some m) n e = go (leb m largest) refl e
+  where
+    go : (b : Bool) → leb m largest ≡ b → cond b (some m) none ≡ some n → n ≤ largest
+    go true l f = omega (arith, leb-true m largest l, some-is f)
+    go false l f = let z : _≡_ {A = ℕ} 0 1 = cc in absurd (omega arith)
+
+pub number-laws : (field : List ℕ) (n : ℕ) → Number-laws field n
+unfolding number
+number-laws field n = record { some-digit = λ e. parts e .0; ten-digits = λ e. parts e .1; bounded = λ e. parts e .2 }
+  where
+    fits : Bool
+    fits = leb 1 (length field) && leb (length field) most-digits
+
+    go : (b : Bool) → fits ≡ b → cond b (up-to-largest (with-digits 0 field)) none ≡ some n
+        → (1 ≤ length field) × (length field ≤ most-digits) × (n ≤ largest)
+    go true l f = (
+      leb-true 1 (length field) (and-left (leb 1 (length field)) (leb (length field) most-digits) l),
+      leb-true (length field) most-digits (and-right (leb 1 (length field)) (leb (length field) most-digits) l),
+      up-to (with-digits 0 field) n f,
+    )
+    go false l f = let z : _≡_ {A = ℕ} 0 1 = cc in absurd (omega arith)
+
+    parts : cond fits (up-to-largest (with-digits 0 field)) none ≡ some n → (1 ≤ length field) × (length field ≤ most-digits) × (n ≤ largest)
+    parts e = go fits refl e

@@ -54,3 +54,10 @@ printed n = digits most-digits n
 
 abbrev pub Read-back : Type 0
 Read-back = (n : ℕ) → n ≤ largest → number (printed n) ≡ some n
+
+-- ---- a field that is a number has 1 to 10 digits, and is no number that a word cannot hold: proved in proofs/Digits.antt
+
+pub record Number-laws (field : List ℕ) (n : ℕ) : Type 0 where
+  pub some-digit : number field ≡ some n → 1 ≤ length field
+  pub ten-digits : number field ≡ some n → length field ≤ most-digits
+  pub bounded : number field ≡ some n → n ≤ largest
