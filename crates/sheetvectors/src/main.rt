@@ -1,5 +1,5 @@
 // Answers each command line of standard input by one line on standard output. The commands work on
-// one sheet; tests/reference/sheet_answers.rs describes them.
+// one sheet; tests/reference/lines/sheet_lines.rs describes them.
 mod calls;
 mod fill;
 mod print;
