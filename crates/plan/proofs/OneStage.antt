@@ -14,7 +14,7 @@ use Rattle.plan.specs.declared.counts.Counts.{Counts}
 use Rattle.plan.specs.declared.stage.Answer.{Answer}
 use Rattle.plan.specs.declared.stage.Answer.the-variants.{GoOn, Accept, Reject}
 use Rattle.plan.specs.declared.ways.StageWay.the-variants.{Full}
-use Rattle.plan.specs.Plan.{Stage, stages, first, total, admitted, each, apart, last}
+use Rattle.plan.specs.Plan.{Stage, stages, first, total, marked, ahead, numbered, admitted, each, apart, last}
 use Rattle.plan.specs.Counts.{units, nongood, nonbad, add-units}
 use Rattle.plan.specs.Stopping.{or-else, rejects, accepts, decide, at-end, full-at, at-filled, settled, staged, earliest, at-stage, first-answer, completed, only-reject}
 use Rattle.plan.specs.Promise.{One-stage}
@@ -23,6 +23,7 @@ use Rattle.plan.proofs.Answers.{accept-stops}
 use Rattle.plan.proofs.Decide.{decided-reject, decided-accept, decided-on, when-reject, when-accept, when-on}
 use Rattle.plan.proofs.StageTests.{rejects-from, rejects-reaches, rejects-same, not-rejects-below, not-rejects-is, fewer-accepted}
 use Rattle.plan.proofs.Ends.{current-here, current-past, end-past, end-due}
+use Rattle.plan.proofs.Marked.{none-ahead, all-numbered, one-numbered}
 use Rattle.plan.proofs.Limits.{Sound, Decides, Limits, tests, limits}
 use Rattle.plan.proofs.Stages.{stages-more, after-none}
 use Rattle.plan.proofs.Counting.{add-good, add-bad}
@@ -122,13 +123,13 @@ one-stage (s ∷ []) l e c = agree s (l .sound .0) (l .last) c
 one-stage (s ∷ t ∷ rest) l e c = absurd (omega arith)
 
 -- the stage's words
-last-within : (s : Stage) → leb (s .reject1) (0 + total (s ∷ [])) ≡ true → s .reject1 ≤ s .size
+last-within : (s : Stage) → leb (s .reject1) (0 + total [] + total (s ∷ [])) ≡ true → s .reject1 ≤ s .size
 unfolding total
-last-within s e = omega (arith, leb-true (s .reject1) (0 + (s .size + 0)) e)
+last-within s e = omega (arith, leb-true (s .reject1) (0 + 0 + (s .size + 0)) e)
 
-units-within : (s : Stage) → leb (0 + total (s ∷ [])) 1000 ≡ true → s .size ≤ 1000
+units-within : (s : Stage) → leb (0 + total [] + total (s ∷ [])) 1000 ≡ true → s .size ≤ 1000
 unfolding total
-units-within s e = omega (arith, leb-true (0 + (s .size + 0)) 1000 e)
+units-within s e = omega (arith, leb-true (0 + 0 + (s .size + 0)) 1000 e)
 
 at-stage-one : (s : Stage) (c : Counts) → units c ≤ s .size → staged Full (s ∷ []) c ≡ full-at (s .size) s c
 unfolding staged at-stage
@@ -147,14 +148,17 @@ one-stage-words w e n =
     let s : Stage = first w in
     let whole : 5 ≤ length w = omega arith in
     let only : stages w ≡ first w ∷ [] = stages-more w whole ∙ ap (λ (p : List Stage). first w ∷ p) (after-none w (omega arith)) in
+    let unmarked : marked (first w) ≡ false = one-numbered (first w) (leb-true 1 (length (numbered (first w ∷ []))) (rw only at (t .some-numbered))) in
+    let all : numbered (stages w) ≡ first w ∷ [] = ap numbered only ∙ all-numbered (first w) [] unmarked in
+    let none : ahead (stages w) ≡ [] = ap ahead only ∙ none-ahead (first w) [] unmarked in
     let l : Limits (first w ∷ []) = rw only at (limits w e) in
     let sound : Sound (first w .size) (first w) = subst (λ (k : ℕ). Sound k (first w)) (omega arith) (l .sound .0) in
     record {
-      row1 = eqb-true _ _ (rw only at (t .apart1));
-      row2 = eqb-true _ _ (rw only at (t .apart2));
-      rows = leb-true _ _ (and-left (leb (getD w 4 0) (getD w 2 0)) true (rw only at (t .crossed)));
-      within = last-within (first w) (rw only at (t .within1));
-      thousand = units-within (first w) (rw only at (t .thousand));
+      row1 = eqb-true _ _ (rw all at (t .apart1));
+      row2 = eqb-true _ _ (rw all at (t .apart2));
+      rows = leb-true _ _ (and-left (leb (getD w 4 0) (getD w 2 0)) true (rw all at (t .crossed)));
+      within = last-within (first w) (rw (all, none) at (t .within1));
+      thousand = units-within (first w) (rw (all, none) at (t .thousand));
       full-accepts = λ c u. rw (only, at-stage-one s c u) (accepts-if s (s .size) sound (l .last) c u);
       full-rejects = λ c u. rw (only, at-stage-one s c u) (rejects-if s (s .size) sound (l .last) c u);
       full-goes-on = λ c u. rw (only, at-stage-one s c u) (goes-on-if s (s .size) sound (l .last) c u);

@@ -1,11 +1,11 @@
--- `rules`, row by row, is what the code tests stage by stage. Assumes nothing.
+-- `numbered-rules`, row by row, is what the code tests stage by stage. Assumes nothing.
 use Prim.Native.Nat.{ℕ, _+_}
 use native.Mathlib.Nat.{add-assoc, add-zero}
 use mathlib.Core.Path.{_≡_, refl, sym}
 use mathlib.Core.Bool.{Bool, true, false, cond, _&&_, and-false, and-true}
 use mathlib.Core.List.{List, [], _∷_}
 use lib.Dec.{leb, ltb}
-use Rattle.plan.specs.Plan.{Stage, total, each, never-falls, last-step-rises, apart, below-ends, last, last-reject1, row-rules, rules}
+use Rattle.plan.specs.Plan.{Stage, total, each, never-falls, last-step-rises, apart, below-ends, last, last-reject1, row-rules, numbered-rules}
 use Rattle.plan.specs.Row.{row-step, row-end}
 
 -- the four rows
@@ -67,19 +67,19 @@ module _ (before : ℕ) (s t : Stage) (rest : List Stage) where
       (leb (r s) (r t)) (never-falls r (t ∷ rest)) (ltb (a s + 1) (r s)) (apart a r (t ∷ rest))
       (ltb (a s) end) (below-ends a end (t ∷ rest)) (leb (last r (t ∷ rest)) (end + total (t ∷ rest))))
 
-  pub rules-more : rules before (s ∷ t ∷ rest) ≡
+  pub rules-more : numbered-rules before (s ∷ t ∷ rest) ≡
       ((leb 1 (s .size) && row-step (s .accept1) (s .reject1) (t .accept1) (t .reject1) (before + s .size) (none-left rest) &&
       row-step (s .accept2) (s .reject2) (t .accept2) (t .reject2) (before + s .size) (none-left rest) &&
-      leb (s .accept2) (s .accept1) && leb (s .reject2) (s .reject1)) && rules (before + s .size) (t ∷ rest))
-  unfolding rules total last-reject1 each last
+      leb (s .accept2) (s .accept1) && leb (s .reject2) (s .reject1)) && numbered-rules (before + s .size) (t ∷ rest))
+  unfolding numbered-rules total last-reject1 each last
   rules-more = rw (row-more a1 r1, row-more a2 r2, ← add-assoc before (s .size) (total (t ∷ rest)))
       (all-sorted (leb 1 (s .size)) (each (λ (u : Stage). leb 1 (u .size)) (t ∷ rest)) (leb (end + total (t ∷ rest)) 1000) (leb (last r1 (t ∷ rest)) 60)
       (step a1 r1) (row-rules a1 r1 end (t ∷ rest)) (step a2 r2) (row-rules a2 r2 end (t ∷ rest))
       (leb (a2 s) (a1 s)) (each (λ (u : Stage). leb (a2 u) (a1 u)) (t ∷ rest)) (leb (r2 s) (r1 s)) (each (λ (u : Stage). leb (r2 u) (r1 u)) (t ∷ rest)))
 
-pub rules-one : (before : ℕ) (s : Stage) → rules before (s ∷ []) ≡
+pub rules-one : (before : ℕ) (s : Stage) → numbered-rules before (s ∷ []) ≡
     (leb 1 (s .size) && leb (before + s .size) 1000 && leb (s .reject1) 60 &&
     row-end (s .accept1) (s .reject1) (before + s .size) && row-end (s .accept2) (s .reject2) (before + s .size) &&
     leb (s .accept2) (s .accept1) && leb (s .reject2) (s .reject1))
-unfolding rules total last-reject1 each last never-falls last-step-rises apart below-ends row-rules row-end
+unfolding numbered-rules total last-reject1 each last never-falls last-step-rises apart below-ends row-rules row-end
 rules-one before s = simp (and-true, add-zero)

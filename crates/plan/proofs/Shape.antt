@@ -10,10 +10,11 @@ use lib.ListN.{length, getD}
 use lib.Seq.{getD-append-add}
 use lib.Dec.{leb}
 use borrow.Author.Tests.{leb-true, eqb-true}
-use Rattle.plan.specs.Plan.{Stage, stages, first, total, last, last-reject1, last-reject2, admitted}
+use Rattle.plan.specs.Plan.{Stage, stages, first, total, ahead, numbered, last, last-reject1, last-reject2, admitted}
 use Rattle.plan.specs.Promise.{Shape}
 use Rattle.plan.proofs.Ends.{Each, each-map}
 use Rattle.plan.proofs.Rows.{r1, r2}
+use Rattle.plan.proofs.Marked.{parts, last-numbered}
 use Rattle.plan.proofs.Limits.{all-stages, tests, Sound, limits}
 
 -- what holds of a row at each stage holds at the last
@@ -72,17 +73,19 @@ shape w e =
     let t = tests w e in
     let l = limits w e in
     let p : List Stage = stages w in
+    let q : List Stage = numbered (stages w) in
+    let same : (row : Stage → ℕ) → last row q ≡ last row p = λ row. last-numbered row p (leb-true 1 (length q) (t .some-numbered)) in
     let whole : length w ≡ 5 * length p = eqb-true _ _ (t .whole) in
     record {
       whole = whole;
       some-stage = l .some-stage;
       seven-stages = leb-true (length p) 7 (t .seven-stages);
       some-unit = some-units 0 p (l .some-stage) (l .sound);
-      thousand-units = omega (arith, leb-true (0 + total p) 1000 (t .thousand));
+      thousand-units = omega (arith, leb-true (0 + total (ahead p) + total q) 1000 (t .thousand), parts p);
       reject1-from = last-of r1 (λ n. 1 ≤ n) 0 p (l .some-stage) (each-map _ _ (λ end s a. a .reject1) 0 p (l .sound));
-      reject1-to = leb-true (last r1 p) 60 (t .sixty);
+      reject1-to = omega (arith, leb-true (last r1 q) 60 (t .sixty), same r1);
       reject2-from = last-of r2 (λ n. 1 ≤ n) 0 p (l .some-stage) (each-map _ _ (λ end s a. a .reject2) 0 p (l .sound));
-      reject2-to = lasts r2 r1 0 p (all-stages _ 0 p (t .crossed));
+      reject2-to = omega (arith, lasts r2 r1 0 q (all-stages _ 0 q (t .crossed)), same r1, same r2);
       reject1-at = last-at r1 2 (omega arith) (λ v. refl) w whole (l .some-stage) ∙ ap (λ (i : ℕ). getD w i 0) (omega arith);
       reject2-at = last-at r2 4 (omega arith) (λ v. refl) w whole (l .some-stage) ∙ ap (λ (i : ℕ). getD w i 0) (omega arith);
     }

@@ -4,16 +4,16 @@
 -- Assumes nothing.
 use Prim.Native.Nat.{ℕ, _+_, _≤_, _<_}
 use native.Mathlib.Omega.{arith}
-use mathlib.Core.Path.{_≡_, refl, sym, ap₂}
+use mathlib.Core.Path.{_≡_, refl, sym, ap₂, _∙_}
 use mathlib.Core.Logic.{_⊎_, inl, inr}
-use mathlib.Core.Bool.{Bool, true, false, _&&_, _||_, or-true}
+use mathlib.Core.Bool.{Bool, true, false, not, _&&_, _||_, or-true, and-false}
 use lib.Dec.{leb}
-use borrow.Author.Tests.{leb-true, leb-false, le-leb, lt-leb}
+use borrow.Author.Tests.{leb-true, leb-false, le-leb, lt-leb, ne-eqb}
 use Rattle.plan.specs.declared.counts.Counts.{Counts}
-use Rattle.plan.specs.Plan.{Stage}
+use Rattle.plan.specs.Plan.{Stage, not-permitted, marked}
 use Rattle.plan.specs.Counts.{nongood}
 use Rattle.plan.specs.Stopping.{rejects, accepts}
-use Rattle.plan.proofs.Bools.{true-not-false, and-left, and-right, and-both}
+use Rattle.plan.proofs.Bools.{true-not-false, and-left, and-right}
 
 -- ---- rejection: a rejection number is reached
 
@@ -55,34 +55,53 @@ more-rejected s c d h k e = elim (rejects-reaches s c e) [ inl l ↦ rejects-fro
 
 -- ---- acceptance
 
--- by the acceptance numbers
-pub accepts-is : (s : Stage) (bad nongood : ℕ) → accepts s bad nongood ≡ (leb bad (s .accept2) && leb nongood (s .accept1))
-unfolding accepts
-accepts-is s bad nongood = refl
+-- one acceptance number below the mark is enough
+pub not-marked : (s : Stage) → s .accept1 < not-permitted → marked s ≡ false
+unfolding marked
+not-marked s h = simp (ne-eqb (s .accept1) not-permitted (λ e. omega arith))
+
+module _ (s : Stage) (b g : ℕ) where
+  -- by the mark and the acceptance numbers
+  pub accepts-is : accepts s b g ≡ (not (marked s) && leb b (s .accept2) && leb g (s .accept1))
+  unfolding accepts
+  accepts-is = refl
+
+  pub marked-not-accepted : marked s ≡ true → accepts s b g ≡ false
+  unfolding accepts
+  marked-not-accepted e = rw e
+
+  -- by the nongood units, where nothing else stands against it
+  pub accepts-nongood : marked s ≡ false → b ≤ s .accept2 → leb g (s .accept1) ≡ accepts s b g
+  unfolding accepts
+  accepts-nongood e h = rw (e, le-leb b (s .accept2) h)
+
+  pub accepts-within : marked s ≡ false → b ≤ s .accept2 → g ≤ s .accept1 → accepts s b g ≡ true
+  accepts-within e h k = sym (accepts-nongood e h) ∙ le-leb g (s .accept1) k
+
+  pub accepted-within : accepts s b g ≡ true → (marked s ≡ false) × (b ≤ s .accept2) × (g ≤ s .accept1)
+  unfolding accepts
+  accepted-within = go (marked s) refl
+    where
+      go : (m : Bool) → marked s ≡ m → (not m && leb b (s .accept2) && leb g (s .accept1)) ≡ true → (marked s ≡ false) × (b ≤ s .accept2) × (g ≤ s .accept1)
+      go true m e = absurd (true-not-false (sym e))
+      go false m e = (m, leb-true _ _ (and-left (leb b (s .accept2)) _ e), leb-true _ _ (and-right (leb b (s .accept2)) _ e))
 
 pub fewer-accepted : (s : Stage) (b g b′ g′ : ℕ) → b′ ≤ b → g′ ≤ g → accepts s b g ≡ true → accepts s b′ g′ ≡ true
-unfolding accepts
-fewer-accepted s b g b′ g′ h k e =
-    let l : b ≤ s .accept2 = leb-true _ _ (and-left (leb b (s .accept2)) _ e) in
-    let m : g ≤ s .accept1 = leb-true _ _ (and-right (leb b (s .accept2)) _ e) in
-    and-both (le-leb b′ (s .accept2) (omega arith)) (le-leb g′ (s .accept1) (omega arith))
+fewer-accepted s b g b′ g′ h k e = let w = accepted-within s b g e in accepts-within s b′ g′ (w .0) (omega (arith, w .1)) (omega (arith, w .2))
 
 pub accepted-not-rejected : (s : Stage) → s .accept1 < s .reject1 → s .accept2 < s .reject2 → (c : Counts)
     → accepts s (c .bad) (nongood c) ≡ true → rejects s c ≡ false
-unfolding accepts
 accepted-not-rejected s h k c e =
-    let l : c .bad ≤ s .accept2 = leb-true _ _ (and-left (leb (c .bad) (s .accept2)) _ e) in
-    let m : nongood c ≤ s .accept1 = leb-true _ _ (and-right (leb (c .bad) (s .accept2)) _ e) in
-    not-rejects-below s c (omega arith) (omega arith)
+    let w = accepted-within s (c .bad) (nongood c) e in
+    not-rejects-below s c (omega (arith, w .1)) (omega (arith, w .2))
 
 pub all-bad-not-accepted : (s : Stage) (end : ℕ) → s .accept2 < end → accepts s end end ≡ false
 unfolding accepts
-all-bad-not-accepted s end h = simp (lt-leb end (s .accept2) h)
+all-bad-not-accepted s end h = simp (lt-leb end (s .accept2) h, and-false)
 
 -- at the last stage, where a + 1 = r: what is not rejected is accepted
-pub last-accepts : (s : Stage) → s .accept1 + 1 ≡ s .reject1 → s .accept2 + 1 ≡ s .reject2 → (c : Counts)
+pub last-accepts : (s : Stage) → marked s ≡ false → s .accept1 + 1 ≡ s .reject1 → s .accept2 + 1 ≡ s .reject2 → (c : Counts)
     → rejects s c ≡ false → accepts s (c .bad) (nongood c) ≡ true
-unfolding accepts
-last-accepts s e f c g =
+last-accepts s m e f c g =
     let t = not-rejects-is s c g in
-    and-both (le-leb (c .bad) (s .accept2) (omega (arith, t .0))) (le-leb (nongood c) (s .accept1) (omega (arith, t .1)))
+    accepts-within s (c .bad) (nongood c) m (omega (arith, t .0)) (omega (arith, t .1))

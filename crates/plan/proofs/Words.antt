@@ -1,4 +1,4 @@
--- `rules` at the first stage of a run of words. Assumes nothing.
+-- `numbered-rules` at the first stage of a run of words. Assumes nothing.
 use Prim.Native.Nat.{ℕ, _+_, _≤_, _<_}
 use native.Mathlib.Omega.{arith}
 use mathlib.Core.Path.{_≡_, refl, ap, _∙_}
@@ -7,7 +7,7 @@ use mathlib.Core.List.{List, _∷_}
 use lib.ListN.{length, getD}
 use lib.Dec.{leb, ltb}
 use borrow.Author.Tests.{ltb-true, ltb-false, le-leb, lt-leb}
-use Rattle.plan.specs.Plan.{Stage, stages, first, total, rules, each}
+use Rattle.plan.specs.Plan.{Stage, stages, first, total, numbered-rules, each}
 use Rattle.plan.specs.Row.{row-step, row-end}
 use Rattle.plan.proofs.Bools.{first-false, mid-false, both-true}
 use Rattle.plan.proofs.Rows.{none-left, rules-one, rules-more}
@@ -15,36 +15,36 @@ use Rattle.plan.proofs.Stages.{after, second, stages-more, stages-none,
 
 -- a rule that the first stage breaks by itself
 module _ (before : ℕ) (s : Stage) (rest : List Stage) where
-  no-units : s .size < 1 → rules before (s ∷ rest) ≡ false
-  unfolding rules each
+  no-units : s .size < 1 → numbered-rules before (s ∷ rest) ≡ false
+  unfolding numbered-rules each
   no-units h = simp (lt-leb _ _ h)
 
-  too-many : 1000 < before + s .size → rules before (s ∷ rest) ≡ false
-  unfolding rules total
+  too-many : 1000 < before + s .size → numbered-rules before (s ∷ rest) ≡ false
+  unfolding numbered-rules total
   too-many h = simp (lt-leb (before + total (s ∷ rest)) 1000 (omega arith), and-false)
 
-  accepts-crossed : s .accept1 < s .accept2 → rules before (s ∷ rest) ≡ false
-  unfolding rules each
+  accepts-crossed : s .accept1 < s .accept2 → numbered-rules before (s ∷ rest) ≡ false
+  unfolding numbered-rules each
   accepts-crossed h = simp (lt-leb _ _ h, and-false)
 
-  rejects-crossed : s .reject1 < s .reject2 → rules before (s ∷ rest) ≡ false
-  unfolding rules each
+  rejects-crossed : s .reject1 < s .reject2 → numbered-rules before (s ∷ rest) ≡ false
+  unfolding numbered-rules each
   rejects-crossed h = simp (lt-leb _ _ h, and-false)
 
 module _ (before : ℕ) (w : List ℕ) (whole : 5 ≤ length w) where
-  pub no-units-here : getD w 0 0 < 1 → rules before (stages w) ≡ false
+  pub no-units-here : getD w 0 0 < 1 → numbered-rules before (stages w) ≡ false
   unfolding first
   no-units-here h = rw (stages-more w whole) (no-units before (first w) _ h)
 
-  pub too-many-here : 1000 < before + getD w 0 0 → rules before (stages w) ≡ false
+  pub too-many-here : 1000 < before + getD w 0 0 → numbered-rules before (stages w) ≡ false
   unfolding first
   too-many-here h = rw (stages-more w whole) (too-many before (first w) _ h)
 
-  pub accepts-crossed-here : getD w 1 0 < getD w 3 0 → rules before (stages w) ≡ false
+  pub accepts-crossed-here : getD w 1 0 < getD w 3 0 → numbered-rules before (stages w) ≡ false
   unfolding first
   accepts-crossed-here h = rw (stages-more w whole) (accepts-crossed before (first w) _ h)
 
-  pub rejects-crossed-here : getD w 2 0 < getD w 4 0 → rules before (stages w) ≡ false
+  pub rejects-crossed-here : getD w 2 0 < getD w 4 0 → numbered-rules before (stages w) ≡ false
   unfolding first
   rejects-crossed-here h = rw (stages-more w whole) (rejects-crossed before (first w) _ h)
 
@@ -68,20 +68,20 @@ module _ (before : ℕ) (w : List ℕ) (k : Kept before w) where
   end = before + getD w 0 0
 
   pub at-last : length w < 10 →
-      rules before (stages w) ≡ (leb (getD w 2 0) 60 && row-end (getD w 1 0) (getD w 2 0) end && row-end (getD w 3 0) (getD w 4 0) end)
+      numbered-rules before (stages w) ≡ (leb (getD w 2 0) 60 && row-end (getD w 1 0) (getD w 2 0) end && row-end (getD w 3 0) (getD w 4 0) end)
   unfolding first
   at-last h =
-      ap (rules before) (stages-more w (k .whole) ∙ ap (λ (r : List Stage). first w ∷ r) (after-none w h)) ∙
+      ap (numbered-rules before) (stages-more w (k .whole) ∙ ap (λ (r : List Stage). first w ∷ r) (after-none w h)) ∙
       rules-one before (first w) ∙
       simp (le-leb _ _ (k .units), le-leb _ _ (k .within), le-leb _ _ (k .accepts), le-leb _ _ (k .rejects), and-true)
 
   pub at-step : 10 ≤ length w →
-      rules before (stages w) ≡
+      numbered-rules before (stages w) ≡
       ((row-step (getD w 1 0) (getD w 2 0) (getD w 6 0) (getD w 7 0) end (ltb (length w) 15) &&
-      row-step (getD w 3 0) (getD w 4 0) (getD w 8 0) (getD w 9 0) end (ltb (length w) 15)) && rules end (stages (after w)))
+      row-step (getD w 3 0) (getD w 4 0) (getD w 8 0) (getD w 9 0) end (ltb (length w) 15)) && numbered-rules end (stages (after w)))
   unfolding first
   at-step h =
-      ap (rules before) (stages-more w (k .whole) ∙ ap (λ (r : List Stage). first w ∷ r) (after-more w h)) ∙
+      ap (numbered-rules before) (stages-more w (k .whole) ∙ ap (λ (r : List Stage). first w ∷ r) (after-more w h)) ∙
       rules-more before (first w) (second w) (stages (after (after w))) ∙
       rw (next-last w h, after-more w h) (simp (le-leb _ _ (k .units), le-leb _ _ (k .accepts), le-leb _ _ (k .rejects), and-true))
 
@@ -98,17 +98,17 @@ module _ (before : ℕ) (w : List ℕ) (k : Kept before w) where
   abbrev step-2 : Bool
   step-2 = row-step (getD w 3 0) (getD w 4 0) (getD w 8 0) (getD w 9 0) end (ltb (length w) 15)
 
-  pub last-fails : length w < 10 → end-1 ≡ false → rules before (stages w) ≡ false
+  pub last-fails : length w < 10 → end-1 ≡ false → numbered-rules before (stages w) ≡ false
   last-fails h e = at-last h ∙ mid-false (leb (getD w 2 0) 60) end-1 end-2 e
 
-  pub last-holds : length w < 10 → getD w 2 0 ≤ 60 → end-1 ≡ true → rules before (stages w) ≡ end-2
+  pub last-holds : length w < 10 → getD w 2 0 ≤ 60 → end-1 ≡ true → numbered-rules before (stages w) ≡ end-2
   last-holds h l e = at-last h ∙ both-true (leb (getD w 2 0) 60) end-1 end-2 (le-leb _ _ l) e
 
-  pub step-fails-1 : 10 ≤ length w → step-1 ≡ false → rules before (stages w) ≡ false
+  pub step-fails-1 : 10 ≤ length w → step-1 ≡ false → numbered-rules before (stages w) ≡ false
   step-fails-1 h e = at-step h ∙ first-false step-1 step-2 _ e
 
-  pub step-fails-2 : 10 ≤ length w → step-2 ≡ false → rules before (stages w) ≡ false
+  pub step-fails-2 : 10 ≤ length w → step-2 ≡ false → numbered-rules before (stages w) ≡ false
   step-fails-2 h e = at-step h ∙ mid-false step-1 step-2 _ e
 
-  pub step-holds : 10 ≤ length w → step-1 ≡ true → step-2 ≡ true → rules before (stages w) ≡ rules end (stages (after w))
+  pub step-holds : 10 ≤ length w → step-1 ≡ true → step-2 ≡ true → numbered-rules before (stages w) ≡ numbered-rules end (stages (after w))
   step-holds h e f = at-step h ∙ both-true step-1 step-2 _ e f

@@ -48,6 +48,25 @@ unfoldable pub end-from : ℕ → List Stage → ℕ → ℕ
 end-from before [] y = before
 end-from before (s ∷ rest) y = cond (ltb (before + s .size) y) (end-from (before + s .size) rest y) (before + s .size)
 
+-- ---- stages at which acceptance is not permitted. Document 02, change 1
+
+-- as both acceptance numbers of a stage: acceptance is not permitted there
+abbrev pub not-permitted : ℕ
+not-permitted = 4294967295
+
+unfoldable pub marked : Stage → Bool
+marked s = eqb (s .accept1) not-permitted && eqb (s .accept2) not-permitted
+
+-- the marked stages ahead of the first stage with acceptance numbers
+unfoldable pub ahead : List Stage → List Stage
+ahead [] = []
+ahead (s ∷ rest) = cond (marked s) (s ∷ ahead rest) []
+
+-- the stages from that one on
+unfoldable pub numbered : List Stage → List Stage
+numbered [] = []
+numbered (s ∷ rest) = cond (marked s) (numbered rest) (s ∷ rest)
+
 -- ---- the rules. A row of numbers is a function of the stage
 
 unfoldable pub each : (Stage → Bool) → List Stage → Bool
@@ -98,9 +117,9 @@ row-rules a r before p =
     below-ends a before p &&
     leb (last r p) (before + total p)
 
--- the rules on stages that come after `before` units
-unfoldable pub rules : ℕ → List Stage → Bool
-rules before p =
+-- the rules on stages with acceptance numbers, which come after `before` units
+unfoldable pub numbered-rules : ℕ → List Stage → Bool
+numbered-rules before p =
     each (λ s. leb 1 (s .size)) p &&
     leb (before + total p) 1000 &&
     leb (last-reject1 p) 60 &&
@@ -108,6 +127,20 @@ rules before p =
     row-rules (λ s. s .accept2) (λ s. s .reject2) before p &&
     each (λ s. leb (s .accept2) (s .accept1)) p &&
     each (λ s. leb (s .reject2) (s .reject1)) p
+
+-- the rules on a marked stage
+unfoldable pub marked-rules : Stage → Bool
+marked-rules s = leb 1 (s .size) && leb 1 (s .reject1) && leb 1 (s .reject2) && leb (s .reject2) (s .reject1)
+
+-- the rules on stages that come after `before` units. The last stage is not marked, and a marked one after a stage with acceptance
+-- numbers breaks `below-ends`
+unfoldable pub rules : ℕ → List Stage → Bool
+rules before p =
+    each marked-rules (ahead p) &&
+    never-falls (λ s. s .reject1) p &&
+    never-falls (λ s. s .reject2) p &&
+    leb 1 (length (numbered p)) &&
+    numbered-rules (before + total (ahead p)) (numbered p)
 
 -- a run of words is admitted: 1 to 7 whole stages, and the rules
 unfoldable pub admitted : List ℕ → Bool

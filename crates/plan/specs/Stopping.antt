@@ -1,6 +1,6 @@
 -- The four ways to stop. Document 01, "Four ways to stop".
 use Prim.Native.Nat.{ℕ, _+_, _-_}
-use mathlib.Core.Bool.{Bool, cond, _&&_, _||_}
+use mathlib.Core.Bool.{Bool, not, cond, _&&_, _||_}
 use mathlib.Core.List.{List, [], _∷_}
 use lib.Dec.{leb, ltb, eqb}
 use Rattle.plan.specs.declared.counts.Counts.{Counts}
@@ -10,7 +10,7 @@ use Rattle.plan.specs.declared.ways.StageWay.{StageWay}
 use Rattle.plan.specs.declared.ways.StageWay.the-variants.{Uncurtailed, Semi, Full}
 use Rattle.plan.specs.declared.ways.Way.{Way}
 use Rattle.plan.specs.declared.ways.Way.the-variants.{Staged, Earliest}
-use Rattle.plan.specs.Plan.{Stage}
+use Rattle.plan.specs.Plan.{Stage, marked}
 use Rattle.plan.specs.Counts.{units, nongood, nonbad, add-units}
 
 -- the numbers of the three states: 0 undecided, 1 accepted, 2 rejected
@@ -30,9 +30,9 @@ or-else Reject b = Reject
 unfoldable pub rejects : Stage → Counts → Bool
 rejects s c = leb (s .reject2) (c .bad) || leb (s .reject1) (nongood c)
 
--- so many bad units and so many nongood ones are within the acceptance numbers
+-- acceptance is permitted, and so many bad units and so many nongood ones are within the acceptance numbers
 unfoldable pub accepts : Stage → ℕ → ℕ → Bool
-accepts s bad nongood = leb bad (s .accept2) && leb nongood (s .accept1)
+accepts s bad nongood = not (marked s) && leb bad (s .accept2) && leb nongood (s .accept1)
 
 -- the answer by the two tests: rejection goes first
 unfoldable pub decide : Bool → Bool → Answer

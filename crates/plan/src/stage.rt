@@ -5,8 +5,11 @@ ghost use mathlib.Core.Path.{_≡_};
 ghost use Prim.Native.Nat.{_+_, _≤_};
 ghost use lib.ListN.{length};
 ghost use Rattle.plan.specs.Counts.{units};
-ghost use Rattle.plan.specs.Plan.{first};
+ghost use Rattle.plan.specs.Plan.{first, marked};
 ghost use Rattle.plan.specs.Stopping.{state, rejects, accepts, at-end};
+
+// As both acceptance numbers of a stage: acceptance is not permitted there. Document 02, change 1.
+const NOT_PERMITTED: u32 = 4294967295;
 
 // What a stopping rule answers to the units so far.
 pub enum Answer {
@@ -37,11 +40,25 @@ pub fn rejects(plan: &[u32], c: Counts) -> bool
     plan[2] <= c.marginal + c.bad
 }
 
-// Are so many bad and so many nongood units within the acceptance numbers?
+// Is acceptance not permitted at the stage?
+pub fn marked(plan: &[u32]) -> bool
+    requires { ⌜ 5 ≤ length (now plan) ⌝ }
+    ensures { λ r. ⌜ r ≡ marked (first (now (plan .entry))) ⌝ }
+{
+    if plan[1] != NOT_PERMITTED {
+        return false;
+    }
+    plan[3] == NOT_PERMITTED
+}
+
+// Is acceptance permitted, and are so many bad and so many nongood units within the acceptance numbers?
 pub fn accepts(plan: &[u32], bad: u32, nongood: u32) -> bool
     requires { ⌜ 5 ≤ length (now plan) ⌝ }
     ensures { λ r. ⌜ r ≡ accepts (first (now (plan .entry))) bad nongood ⌝ }
 {
+    if marked(plan) {
+        return false;
+    }
     if plan[3] < bad {
         return false;
     }
