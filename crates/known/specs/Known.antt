@@ -1,9 +1,9 @@
--- The starred rows of document 01, "Known lots", in one statement. A judged list's numbers are stop and state of uncurtailed, semi,
--- full and earliest, then the event.
+-- The starred rows of document 01, "Known lots", in one statement, and a plan with a marked stage in another. A judged list's numbers
+-- are stop and state of uncurtailed, semi, full and earliest, then the event.
 use Prim.Native.Nat.{ℕ}
 use mathlib.Core.Path.{_≡_}
 use mathlib.Core.List.{List, [], _∷_}
-use Rattle.plan.specs.Plan.{stages}
+use Rattle.plan.specs.Plan.{stages, not-permitted}
 use Rattle.plan.specs.Reply.{granted}
 use Rattle.judge.specs.Judge.{judged, judge-reply}
 use Rattle.chance.specs.Reply.{weights-of, bounds-reply, chance-answer}
@@ -38,3 +38,15 @@ pub record Known-lots : Type 0 where
   pub b-2-ten-good : judge-reply (judged plan-b (2 ∷ ten-good)) ≡ granted (11 ∷ 1 ∷ 11 ∷ 1 ∷ 11 ∷ 1 ∷ 9 ∷ 1 ∷ 0 ∷ [])
   pub one-unit : bounds-reply (chance-answer size-one (weights-of 1 1 1) 2) ≡ granted (366503875925 ∷ 366503875926 ∷ [])
   pub one-unit-half : bounds-reply (chance-answer size-one (weights-of 1 0 1) 2) ≡ granted (549755813888 ∷ 549755813888 ∷ [])
+
+-- sizes 2, 1; acceptance is not permitted at the first stage; both rows have rejection number 2 there, and 2, 3 at the second
+abbrev pub plan-c : List ℕ
+plan-c = 2 ∷ not-permitted ∷ 2 ∷ not-permitted ∷ 2 ∷ 1 ∷ 2 ∷ 3 ∷ 2 ∷ 3 ∷ []
+
+-- earliest accepts inside the marked stage: after a good unit the two that are left give at most one bad unit at that stage's end, and
+-- two in all. The other three ways do not accept there
+pub record Accepted-later : Type 0 where
+  pub c-0 : judge-reply (judged plan-c (0 ∷ [])) ≡ granted (0 ∷ 0 ∷ 0 ∷ 0 ∷ 0 ∷ 0 ∷ 1 ∷ 1 ∷ 0 ∷ [])
+  pub c-00 : judge-reply (judged plan-c (0 ∷ 0 ∷ [])) ≡ granted (0 ∷ 0 ∷ 0 ∷ 0 ∷ 0 ∷ 0 ∷ 1 ∷ 1 ∷ 0 ∷ [])
+  pub c-022 : judge-reply (judged plan-c (0 ∷ 2 ∷ 2 ∷ [])) ≡ granted (3 ∷ 1 ∷ 3 ∷ 1 ∷ 3 ∷ 1 ∷ 1 ∷ 1 ∷ 0 ∷ [])
+  pub c-22 : judge-reply (judged plan-c (2 ∷ 2 ∷ [])) ≡ granted (2 ∷ 2 ∷ 2 ∷ 2 ∷ 2 ∷ 2 ∷ 2 ∷ 2 ∷ 0 ∷ [])
