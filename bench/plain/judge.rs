@@ -151,7 +151,7 @@ impl Stops {
 fn full(stage: &Stage, counts: Counts) -> u32 {
     if counts.bad >= stage.r2 || counts.nongood >= stage.r1 {
         REJECTED
-    } else if counts.good() >= stage.end - stage.a1 && counts.nonbad() >= stage.end - stage.a2 {
+    } else if stage.accepting().met_by(counts) {
         ACCEPTED
     } else {
         UNDECIDED

@@ -10,13 +10,39 @@ pub const REJECTED: u32 = 2;
 pub const STAGE_WORDS: usize = 5;
 pub const MOST_STAGES: usize = 7;
 
+/// Both a1 and a2 of a stage where acceptance is not permitted: 4,294,967,295 as a signed
+/// word. With it the rules on a ask of such a stage what they should: a + 1 < r is r >= 1,
+/// as a never falls such stages come first, and as it rises to the last stage that is none.
+/// Such a stage does not accept, because end - a is more than its units.
+const NOT_PERMITTED: i32 = -1;
+
 #[derive(Clone, Copy, Default)]
 pub struct Stage {
     pub end: u32,
-    pub a1: u32,
+    pub a1: i32,
     pub r1: u32,
-    pub a2: u32,
+    pub a2: i32,
     pub r2: u32,
+}
+
+impl Stage {
+    /// What the first stage follows: no unit, and as yet no acceptance.
+    const NONE: Stage = Stage {
+        end: 0,
+        a1: NOT_PERMITTED,
+        r1: 0,
+        a2: NOT_PERMITTED,
+        r2: 0,
+    };
+
+    /// The good and nonbad units from which on it accepts.
+    pub fn accepting(&self) -> Pair {
+        let end = self.end as i32;
+        Pair {
+            good: (end - self.a1) as u32,
+            nonbad: (end - self.a2) as u32,
+        }
+    }
 }
 
 #[derive(Clone, Copy, Default)]
@@ -81,7 +107,7 @@ impl Plan {
             return None;
         }
         let mut stages = [Stage::default(); MOST_STAGES];
-        let mut before = Stage::default();
+        let mut before = Stage::NONE;
         for (i, &[n, a1, r1, a2, r2]) in chunks.iter().enumerate() {
             if n == 0 || n > 1000 - before.end {
                 return None;
@@ -89,12 +115,12 @@ impl Plan {
             let end = before.end + n;
             let stage = Stage {
                 end,
-                a1,
+                a1: a1 as i32,
                 r1,
-                a2,
+                a2: a2 as i32,
                 r2,
             };
-            if !follows(&before, &stage, i > 0, i + 1 == k) {
+            if !follows(&before, &stage, i + 1 == k) {
                 return None;
             }
             stages[i] = stage;
@@ -121,32 +147,35 @@ impl Plan {
         };
         let mut passing = Pair::default();
         for stage in rest {
-            limits.add(passing.and(stage.end - stage.a1, stage.end - stage.a2));
+            limits.add(passing.and(stage.accepting()));
             let more = stage.end + 1;
-            passing = passing.and(more.saturating_sub(stage.r1), more.saturating_sub(stage.r2));
+            passing = passing.and(Pair {
+                good: more.saturating_sub(stage.r1),
+                nonbad: more.saturating_sub(stage.r2),
+            });
         }
         limits
     }
 }
 
 /// The rules on one stage after another; the row of r2 follows that of r1.
-fn follows(before: &Stage, stage: &Stage, has_before: bool, last: bool) -> bool {
-    let rises = !(last && has_before) || (stage.a1 > before.a1 && stage.a2 > before.a2);
-    rises
-        && stage.a1 >= before.a1
-        && stage.a2 >= before.a2
+fn follows(before: &Stage, stage: &Stage, last: bool) -> bool {
+    let rise = i32::from(last);
+    stage.a1 >= before.a1 + rise
+        && stage.a2 >= before.a2 + rise
         && stage.r1 >= before.r1
         && stage.r2 >= before.r2
         && apart(stage.a1, stage.r1, last)
         && apart(stage.a2, stage.r2, last)
         && stage.a2 <= stage.a1
         && stage.r2 <= stage.r1
-        && stage.a1 < stage.end
+        && stage.a1 < stage.end as i32
+        && (stage.a1 == NOT_PERMITTED || stage.a2 != NOT_PERMITTED)
 }
 
-fn apart(a: u32, r: u32, last: bool) -> bool {
-    let next = u64::from(a) + 1;
-    let r = u64::from(r);
+fn apart(a: i32, r: u32, last: bool) -> bool {
+    let next = i64::from(a) + 1;
+    let r = i64::from(r);
     if last {
         next == r
     } else {
@@ -156,22 +185,22 @@ fn apart(a: u32, r: u32, last: bool) -> bool {
 
 /// Good and nonbad units.
 #[derive(Clone, Copy, Default)]
-struct Pair {
+pub struct Pair {
     good: u32,
     nonbad: u32,
 }
 
 impl Pair {
     /// At least these numbers too.
-    fn and(self, good: u32, nonbad: u32) -> Pair {
+    fn and(self, other: Pair) -> Pair {
         Pair {
-            good: self.good.max(good),
-            nonbad: self.nonbad.max(nonbad),
+            good: self.good.max(other.good),
+            nonbad: self.nonbad.max(other.nonbad),
         }
     }
 
-    fn met_by(self, good: u32, nonbad: u32) -> bool {
-        good >= self.good && nonbad >= self.nonbad
+    pub fn met_by(self, counts: Counts) -> bool {
+        counts.good() >= self.good && counts.nonbad() >= self.nonbad
     }
 }
 
@@ -207,8 +236,7 @@ impl Limits {
         if counts.bad >= self.r2 || counts.nongood >= self.r1 {
             return REJECTED;
         }
-        let (good, nonbad) = (counts.good(), counts.nonbad());
-        let accepts = self.pairs().iter().any(|pair| pair.met_by(good, nonbad));
+        let accepts = self.pairs().iter().any(|pair| pair.met_by(counts));
         u32::from(accepts) * ACCEPTED
     }
 
