@@ -3,7 +3,7 @@
 
 use super::expect_answer;
 use crate::generators::draw;
-use crate::generators::hand_written::{runs, A, B, ONE, SEVEN, THREE, TWO, WRAPS};
+use crate::generators::hand_written::{runs, A, B, MARKED, ONE, SEVEN, THREE, TWO, WRAPS};
 use crate::generators::known_lots::{JUDGED, KNOWN};
 use crate::generators::plan_edges::edges;
 use crate::generators::random::Random;
@@ -64,7 +64,9 @@ fn admission_edges() -> Result<(), String> {
             expect(&words, Some("k from 1 to 7"))?;
         }
     }
-    match WRAPS.iter().find(|words| broken(words).is_empty()) {
+    expect(MARKED, None)?;
+    let mut others = WRAPS.iter().filter(|&&words| words != MARKED);
+    match others.find(|words| broken(words).is_empty()) {
         Some(words) => Err(format!("{words:?} is admitted")),
         None => Ok(()),
     }

@@ -116,11 +116,14 @@ pub fn near_the_numbers(random: &mut Random, plan: &Plan) -> Vec<u8> {
     let aimed = random.index(plan.stages.len());
     let mut sample = Vec::new();
     for (i, stage) in plan.stages.iter().enumerate() {
-        let ([a1, a2], [r1, r2]) = (stage.a, stage.r);
-        let [nongood, bad] = if i < aimed {
-            [[a1 + 1, a1 + 1, a1 + 1, r1 - 1], [0, a2, a2 + 1, r2 - 1]]
-        } else {
-            [[a1, a1 + 1, r1 - 1, r1], [a2, a2 + 1, r2 - 1, r2]]
+        let [r1, r2] = stage.r;
+        let [nongood, bad] = match stage.a {
+            Some([a1, a2]) if i < aimed => {
+                [[a1 + 1, a1 + 1, a1 + 1, r1 - 1], [0, a2, a2 + 1, r2 - 1]]
+            }
+            Some([a1, a2]) => [[a1, a1 + 1, r1 - 1, r1], [a2, a2 + 1, r2 - 1, r2]],
+            None if i < aimed => [[0, 0, r1 / 2, r1 - 1], [0, 0, r2 / 2, r2 - 1]],
+            None => [[0, r1 - 1, r1 - 1, r1], [0, r2 - 1, r2 - 1, r2]],
         };
         let aim = [random.pick(&nongood), random.pick(&bad)];
         let mut units = units_up_to(aim, Counts::of(&sample), stage.size);

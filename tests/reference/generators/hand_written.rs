@@ -48,8 +48,11 @@ pub fn runs() -> Vec<Vec<u32>> {
 const MOST: u32 = u32::MAX;
 const HALF: u32 = 1 << 31;
 
+/// The first stage has the words that mark it (02, change 1), so this is a plan.
+pub const MARKED: &[u32] = &[10, MOST, 1, MOST, 1, 1, 5, 6, 5, 6];
+
 /// Words whose sums would wrap in 32 bits. 01 "Plan" is about whole numbers, so
-/// none of these is admitted.
+/// none of these but MARKED is admitted.
 pub const WRAPS: &[&[u32]] = &[
     &[MOST, 2, 3, 1, 2],
     &[MOST, MOST, MOST, MOST, MOST],
@@ -72,7 +75,7 @@ pub const WRAPS: &[&[u32]] = &[
     &[10, 0, 3, 0, 3, HALF, 1, 4, 1, 4, HALF, 5, 6, 5, 6],
     &[10, 0, 3, 0, 3, MOST, 1, 4, 1, 4, 2, 5, 6, 5, 6],
     &[10, MOST, 3, 0, 3, 1, 5, 6, 5, 6],
-    &[10, MOST, 1, MOST, 1, 1, 5, 6, 5, 6],
+    MARKED,
     &[10, 0, 3, MOST, 3, 1, 5, 6, 5, 6],
     &[10, 0, MOST, 0, 3, 1, 5, 6, 5, 6],
     &[10, 0, 3, 0, MOST, 1, 5, 6, 5, 6],

@@ -77,7 +77,8 @@ fn next_completion(rest: &mut [u8]) -> bool {
 /// Counts are saturated at the last r of their row. That loses nothing: r and
 /// a never fall and a + 1 = r at the last stage, so each r is at most the last
 /// r, and each a is below it. So a count and its saturated value stand alike to
-/// all of the plan's numbers, and they still do after each further unit.
+/// all of the plan's numbers, and they still do after each further unit. A
+/// marked stage has no a to stand to.
 pub struct Table {
     last_r: [u64; 2],
     verdicts: Vec<u8>,

@@ -70,14 +70,16 @@ fn semi(stage: &Stage, y: u64, counts: Counts) -> Option<u8> {
     uncurtailed(stage, y, counts).filter(|&verdict| verdict == ACCEPTED)
 }
 
-/// Should both tests hold, rejection goes first.
+/// Should both tests hold, rejection goes first. A marked stage has no test of
+/// acceptance (02, change 1).
 fn full(stage: &Stage, y: u64, counts: Counts) -> Option<u8> {
     if rejects(stage, counts) {
         return Some(REJECTED);
     }
+    let a = stage.a?;
     let nonbad = y - counts.bad;
     let good = y - counts.nongood;
-    let accepts = nonbad >= stage.end - stage.a[BAD] && good >= stage.end - stage.a[NONGOOD];
+    let accepts = nonbad >= stage.end - a[BAD] && good >= stage.end - a[NONGOOD];
     accepts.then_some(ACCEPTED)
 }
 
