@@ -3,23 +3,32 @@
 use super::random::Random;
 use crate::model::chance::{Weights, MOST_WEIGHT};
 use crate::model::earliest::Table;
-use crate::model::plan::{Counts, Plan, Stage, BAD, BOTH, MOST_R1, NONGOOD};
+use crate::model::plan::{Counts, Plan, Stage, BAD, BOTH, MARK, MOST_R1, NONGOOD};
 use crate::model::sheet_call::SheetCall;
 
 /// The words of an admitted plan of S units and k stages, fewer where S is less
 /// than k. For a large S the last r1 is near 60, its greatest value.
 pub fn plan(random: &mut Random, k: usize, units: u32) -> Vec<u32> {
+    marked_plan(random, 0, k, units)
+}
+
+/// Alike, with so many marked stages, fewer where no stage would be left after
+/// them.
+pub fn marked_plan(random: &mut Random, marked: usize, k: usize, units: u32) -> Vec<u32> {
     let k = k.min(units as usize);
+    let marked = marked.min(k - 1);
     let sizes = sizes(random, k, units);
-    // With several stages a + 1 < r before the last, so no r is below 2.
-    let least_r = if k > 1 { 2 } else { 1 };
+    // a + 1 < r before the last of several stages with acceptance numbers, so
+    // none of their r is below 2.
+    let least_r = if k - marked > 1 { 2 } else { 1 };
     let last_r1 = match units {
         0..=99 => random.at_ends_or_between(least_r, units.min(MOST_R1 as u32)),
         _ => random.between(52, MOST_R1 as u32),
     };
     let last_r2 = random.at_ends_or_between(least_r, last_r1);
-    let (a1, r1) = row(random, last_r1, &vec![last_r1; k], &below_ends(&sizes));
-    let (a2, r2) = row(random, last_r2, &r1, &a1);
+    let (a1, r1) = row(random, marked, &vec![last_r1; k], &below_ends(&sizes));
+    let r_most = [&r1[..k - 1], &[last_r2]].concat();
+    let (a2, r2) = row(random, marked, &r_most, &a1);
     let stage = |i: usize| [sizes[i], a1[i], r1[i], a2[i], r2[i]];
     (0..k).flat_map(stage).collect()
 }
@@ -45,24 +54,36 @@ fn sizes(random: &mut Random, k: usize, units: u32) -> Vec<u32> {
     sizes
 }
 
-/// The acceptance and rejection numbers of one row, at most `a_most`, `r_most`.
-/// r is drawn backward from the last so that it never falls, then a forward and
-/// below r - 1. Neither r nor the given bounds fall, so there is always room.
-fn row(random: &mut Random, last_r: u32, r_most: &[u32], a_most: &[u32]) -> (Vec<u32>, Vec<u32>) {
+/// The acceptance and rejection numbers of one row, at most `a_most`, `r_most`;
+/// the last r is its most. r is drawn backward from the last so that it never
+/// falls, then a forward and below r - 1, after the marked stages. Neither r nor
+/// the given bounds fall before the last, so there is always room.
+fn row(random: &mut Random, marked: usize, r_most: &[u32], a_most: &[u32]) -> (Vec<u32>, Vec<u32>) {
     let k = r_most.len();
-    let mut r = vec![last_r; k];
-    let mut a = vec![last_r - 1; k];
-    let least_r = random.at_ends_or_between(2, last_r.max(2));
+    let mut r = r_most.to_vec();
+    let least_r = random.at_ends_or_between(2, r[k - 1].max(2));
     for i in (0..k - 1).rev() {
+        let least = if i < marked {
+            random.pick(&[1, least_r])
+        } else {
+            least_r
+        };
         let most = r[i + 1].min(r_most[i]);
-        r[i] = random.at_ends_or_between(least_r.min(most), most);
+        r[i] = random.at_ends_or_between(least.min(most), most);
     }
+    (acceptance_numbers(random, marked, &r, a_most), r)
+}
+
+fn acceptance_numbers(random: &mut Random, marked: usize, r: &[u32], a_most: &[u32]) -> Vec<u32> {
+    let last = r.len() - 1;
+    let mut a = vec![MARK; marked];
     let mut low = 0;
-    for i in 0..k - 1 {
-        a[i] = random.at_ends_or_between(low, a_most[i].min(r[i] - 2));
-        low = a[i];
+    for i in marked..last {
+        low = random.at_ends_or_between(low, a_most[i].min(r[i] - 2));
+        a.push(low);
     }
-    (a, r)
+    a.push(r[last] - 1);
+    a
 }
 
 /// Weights of the classes: good, bad or marginal prevailing, mixed, and without
