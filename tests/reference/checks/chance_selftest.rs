@@ -58,6 +58,17 @@ fn random_chances(plans: usize) -> Result<(), String> {
     Ok(())
 }
 
+/// Low and high of a plan of few units: close together and around N.
+pub fn around_the_sum(words: &[u32], weights: Weights) -> Result<(), String> {
+    let plan = Plan::admitted(words).ok_or(format!("{words:?} should be admitted"))?;
+    let found = bounds(&plan, &Table::new(&plan), weights);
+    if close(&plan, found) && enclosed(&plan, weights, found) {
+        Ok(())
+    } else {
+        Err(format!("{words:?} with {weights:?} gives {found:?}"))
+    }
+}
+
 /// low <= high <= 2^40 and high - low <= 2 * S.
 fn close(plan: &Plan, [low, high]: Bounds) -> bool {
     low <= high && high <= UNITS && high - low <= 2 * plan.units() as u64

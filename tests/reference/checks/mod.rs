@@ -1,6 +1,7 @@
 //! Checks of the model itself, and of what the generators cover.
 
 mod chance_selftest;
+mod marked_selftest;
 mod plan_selftest;
 mod sheet_histories;
 pub mod stats;
@@ -17,6 +18,10 @@ pub fn selftest() -> Result<(), String> {
     let plays = 400;
     sheet_histories::run(plays)?;
     eprintln!("selftest passed: {plays} lists of calls on sheets, by words and by histories");
+    let [stops, in_marked] = marked_selftest::run(plans, plays)?;
+    eprintln!(
+        "selftest passed: alike with marked stages, {stops} stops, {in_marked} accept in one"
+    );
     Ok(())
 }
 

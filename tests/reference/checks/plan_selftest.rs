@@ -42,7 +42,7 @@ fn known_judgements() -> Result<(), String> {
 }
 
 /// The stop of a list, the same by completions and by the table.
-fn two_ways(plan: &Plan, table: &Table, list: &[u8]) -> Result<Stop, String> {
+pub fn two_ways(plan: &Plan, table: &Table, list: &[u8]) -> Result<Stop, String> {
     let stop = by_completions(plan, list);
     if stop == by_table(plan, table, list) {
         Ok(stop)
@@ -73,7 +73,7 @@ fn admission_edges() -> Result<(), String> {
 }
 
 /// Whether a plan breaks no rule, or this rule among others.
-fn expect(words: &[u32], rule: Option<&str>) -> Result<(), String> {
+pub fn expect(words: &[u32], rule: Option<&str>) -> Result<(), String> {
     let rules = broken(words);
     let met = match rule {
         None => rules.is_empty(),

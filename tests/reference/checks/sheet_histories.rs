@@ -131,14 +131,29 @@ fn counts(history: &[u8]) -> [u64; 3] {
     [0, 1, 2].map(|class| history.iter().filter(|&&it| it == class).count() as u64)
 }
 
+const LENGTHS: [usize; 6] = [room(1), room(3), room(5) + 3, room(9), room(14), room(24)];
+
 /// So many lists of calls by words and by histories.
 pub fn run(plays: usize) -> Result<(), String> {
     let random = &mut Random::new(11);
-    let lengths = [room(1), room(3), room(5) + 3, room(9), room(14), room(24)];
     for round in 0..plays {
         let units = random.between(1, 6);
         let words = draw::plan(random, 1 + round % 3, units);
-        let length = random.pick(&lengths);
+        let length = random.pick(&LENGTHS);
+        play(random, &words, length)?;
+    }
+    Ok(())
+}
+
+/// Alike with marked stages.
+pub fn run_marked(plays: usize) -> Result<(), String> {
+    let random = &mut Random::new(22);
+    for round in 0..plays {
+        let k = 2 + round % 5;
+        let marked = 1 + random.index(k - 1);
+        let units = random.between(2, 6);
+        let words = draw::marked_plan(random, marked, k, units);
+        let length = random.pick(&LENGTHS);
         play(random, &words, length)?;
     }
     Ok(())

@@ -1,6 +1,7 @@
 //! Inputs for the calls, the same at each run.
 //!
-//! - Hand-written: hand_written, plan_edges, known_lots, published.
+//! - Hand-written: hand_written, plan_edges, known_lots, published; with marked
+//!   stages marked_plans, marked_edges.
 //! - Random: random, draw.
 //! - Made of these: plan_cases; sheet_cases and sheet_damage, by sheet_script;
 //!   full_sheets; lots_script.
@@ -10,6 +11,8 @@ pub mod full_sheets;
 pub mod hand_written;
 pub mod known_lots;
 pub mod lots_script;
+pub mod marked_edges;
+pub mod marked_plans;
 pub mod plan_cases;
 pub mod plan_edges;
 pub mod published;

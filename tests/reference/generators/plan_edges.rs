@@ -4,14 +4,14 @@ use super::hand_written::{ONE, SEVEN, THREE, TWO, UNIT};
 use crate::model::plan::STAGE_WORDS;
 
 /// Words of a stage.
-const N: usize = 0;
-const A1: usize = 1;
-const R1: usize = 2;
-const A2: usize = 3;
-const R2: usize = 4;
+pub const N: usize = 0;
+pub const A1: usize = 1;
+pub const R1: usize = 2;
+pub const A2: usize = 3;
+pub const R2: usize = 4;
 
 /// A stage from 1, a word of it, and the word's new value.
-type Change = (usize, usize, u32);
+pub type Change = (usize, usize, u32);
 
 /// A rule of 01 "Plan" and two plans around its edge, as changes of a base.
 pub struct Edge {
@@ -39,7 +39,7 @@ fn changed(base: &[u32], changes: &[Change]) -> Vec<u32> {
     words
 }
 
-const fn edge(
+pub const fn edge(
     rule: &'static str,
     base: &'static [u32],
     kept: &'static [Change],
@@ -60,18 +60,18 @@ pub fn edges() -> Vec<&'static Edge> {
         .collect()
 }
 
-const A_FALLS: &str = "a never falls";
-const A_RISES: &str = "last step of a is a rise";
-const R_FALLS: &str = "r never falls";
-const BEFORE: &str = "a + 1 < r before the last";
-const LAST: &str = "a + 1 = r at the last";
-const A_BELOW: &str = "a < Si";
-const R_WITHIN: &str = "last r <= S";
-const A_ROWS: &str = "a2 <= a1";
-const R_ROWS: &str = "r2 <= r1";
-const SIZE: &str = "each ni >= 1";
-const SUM: &str = "S <= 1000";
-const R1_MOST: &str = "last r1 <= 60";
+pub const A_FALLS: &str = "a never falls";
+pub const A_RISES: &str = "last step of a is a rise";
+pub const R_FALLS: &str = "r never falls";
+pub const BEFORE: &str = "a + 1 < r before the last";
+pub const LAST: &str = "a + 1 = r at the last";
+pub const A_BELOW: &str = "a < Si";
+pub const R_WITHIN: &str = "last r <= S";
+pub const A_ROWS: &str = "a2 <= a1";
+pub const R_ROWS: &str = "r2 <= r1";
+pub const SIZE: &str = "each ni >= 1";
+pub const SUM: &str = "S <= 1000";
+pub const R1_MOST: &str = "last r1 <= 60";
 
 /// The last step of a can't fail to rise alone: the rules on r before and at
 /// the last stage imply the rise.
