@@ -48,13 +48,9 @@ fn count(tally: &mut Tally, what: String) {
 fn admission(tally: &mut Tally, words: &[u32]) {
     let mut rules = broken(words);
     rules.dedup();
-    if rules.is_empty() {
-        count(
-            tally,
-            format!("a: admitted, k = {}", words.len() / STAGE_WORDS),
-        );
-    } else {
-        count(tally, "a: not admitted".to_string());
+    match Plan::admitted(words) {
+        Some(plan) => admitted(tally, &plan),
+        None => count(tally, "a: not admitted".to_string()),
     }
     for rule in &rules {
         let others = if rules.len() == 1 {
@@ -63,6 +59,15 @@ fn admission(tally: &mut Tally, words: &[u32]) {
             "with others"
         };
         count(tally, format!("a: breaks {others}: {rule}"));
+    }
+}
+
+fn admitted(tally: &mut Tally, plan: &Plan) {
+    let k = plan.stages.len();
+    count(tally, format!("a: admitted, k = {k}"));
+    let marked = plan.stages.iter().filter(|stage| stage.a.is_none()).count();
+    if marked > 0 {
+        count(tally, format!("a: admitted, {marked} of {k} stages marked"));
     }
 }
 
@@ -101,6 +106,9 @@ fn stop(tally: &mut Tally, list: &[u8], plan: &Plan, stop: Stop) {
         tally,
         format!("j: {verdict} in stage {stage} of {}", ends.len()),
     );
+    if plan.stages[stage - 1].a.is_none() {
+        count(tally, format!("j: {verdict} in a marked stage"));
+    }
     if ends.contains(&y) {
         count(tally, format!("j: {verdict} at a stage end, {size}"));
     }

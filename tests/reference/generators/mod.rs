@@ -3,14 +3,15 @@
 //! - Hand-written: hand_written, plan_edges, known_lots, published; with marked
 //!   stages marked_plans, marked_edges.
 //! - Random: random, draw.
-//! - Made of these: plan_cases; sheet_cases and sheet_damage, by sheet_script;
-//!   full_sheets; lots_script.
+//! - Made of these: plan_cases and marked_cases; sheet_cases and sheet_damage, by
+//!   sheet_script; full_sheets; lots_script.
 
 pub mod draw;
 pub mod full_sheets;
 pub mod hand_written;
 pub mod known_lots;
 pub mod lots_script;
+pub mod marked_cases;
 pub mod marked_edges;
 pub mod marked_plans;
 pub mod plan_cases;

@@ -1,5 +1,5 @@
 //! The seeded cases on plans: hand-written edges, then random plans with their lists and
-//! chances.
+//! chances. marked_cases.rs has those with marked stages.
 
 use super::hand_written::{runs, A, B, LARGEST, ONE, SEVEN, THREE, TWO, UNIT, WEIGHTS, WRAPS};
 use super::known_lots::{CHANCES, KNOWN, NEAR_A, NEAR_B};
@@ -31,22 +31,23 @@ pub fn all() -> Vec<String> {
     cases.refused_chances();
     cases.random_chances();
     cases.long_lists();
+    cases.marked_plans();
     let mut seen = HashSet::new();
     cases.lines.retain(|line| seen.insert(line.clone()));
     cases.lines
 }
 
-struct Cases {
+pub struct Cases {
     lines: Vec<String>,
-    random: Random,
+    pub random: Random,
 }
 
 impl Cases {
-    fn admission(&mut self, words: &[u32]) {
+    pub fn admission(&mut self, words: &[u32]) {
         self.lines.push(format!("a{}", fields(words)));
     }
 
-    fn judged(&mut self, list: &[u8], words: &[u32]) {
+    pub fn judged(&mut self, list: &[u8], words: &[u32]) {
         let classes: String = list.iter().map(u8::to_string).collect();
         self.listed(&format!(".{classes}"), words);
     }
@@ -67,7 +68,7 @@ impl Cases {
         }
     }
 
-    fn chance(&mut self, weights: Weights, scratch: u32, words: &[u32]) {
+    pub fn chance(&mut self, weights: Weights, scratch: u32, words: &[u32]) {
         let taken = [&weights[..], &[scratch], words].concat();
         self.lines.push(format!("c{}", fields(&taken)));
     }
@@ -77,7 +78,7 @@ impl Cases {
         self.lines.push(format!("f{}", fields(&taken)));
     }
 
-    fn chance_and_chart(&mut self, weights: Weights, scratch: u32, words: &[u32]) {
+    pub fn chance_and_chart(&mut self, weights: Weights, scratch: u32, words: &[u32]) {
         self.chance(weights, scratch, words);
         self.chart(weights, scratch, words);
     }
@@ -158,20 +159,20 @@ impl Cases {
     }
 
     /// One word off by 1, or two words swapped.
-    fn perturbed(&mut self, words: &[u32]) -> Vec<u32> {
+    pub fn perturbed(&mut self, words: &[u32]) -> Vec<u32> {
         let mut words = words.to_vec();
         let index = self.random.index(words.len());
         let other = self.random.index(words.len());
         match self.random.index(5) {
             0 => words.swap(index, other),
-            1 | 2 => words[index] += 1,
+            1 | 2 => words[index] = words[index].wrapping_add(1),
             _ => words[index] = words[index].abs_diff(1),
         }
         words
     }
 
     /// One class throughout, and the empty list.
-    fn plain_lists(&mut self, words: &[u32]) {
+    pub fn plain_lists(&mut self, words: &[u32]) {
         let Some(plan) = Plan::admitted(words) else {
             return;
         };
@@ -182,7 +183,7 @@ impl Cases {
     }
 
     /// A list of each random kind for an admitted plan.
-    fn lists(&mut self, words: &[u32]) {
+    pub fn lists(&mut self, words: &[u32]) {
         let plan = Plan::admitted(words).expect("the plan is drawn as an admitted one");
         let table = Table::new(&plan);
         let random = &mut self.random;
@@ -305,10 +306,10 @@ impl Cases {
 }
 
 /// The longest scratch of a case, which the largest plans need.
-const MOST_SCRATCH: u32 = chance::MOST_SCRATCH as u32;
+pub const MOST_SCRATCH: u32 = chance::MOST_SCRATCH as u32;
 
 /// The words of scratch that an admitted plan needs.
-fn scratch(words: &[u32]) -> u32 {
+pub fn scratch(words: &[u32]) -> u32 {
     let plan = Plan::admitted(words).expect("the plan is admitted");
     needed(&plan) as u32
 }
