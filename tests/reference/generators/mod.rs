@@ -3,8 +3,8 @@
 //! - Hand-written: hand_written, plan_edges, known_lots, published; with marked
 //!   stages marked_plans, marked_edges.
 //! - Random: random, draw.
-//! - Made of these: plan_cases and marked_cases; sheet_cases and sheet_damage, by
-//!   sheet_script; full_sheets; lots_script.
+//! - Made of these: plan_cases and marked_cases; sheet_cases, sheet_damage and
+//!   marked_sheets, by sheet_script; full_sheets; lots_script.
 
 pub mod draw;
 pub mod full_sheets;
@@ -14,6 +14,7 @@ pub mod lots_script;
 pub mod marked_cases;
 pub mod marked_edges;
 pub mod marked_plans;
+pub mod marked_sheets;
 pub mod plan_cases;
 pub mod plan_edges;
 pub mod published;

@@ -1,5 +1,6 @@
 //! The seeded lists of commands on sheets: hand-written ones, then random ones.
-//! sheet_damage.rs has those that damage a sheet between two calls.
+//! sheet_damage.rs has those that damage a sheet between two calls, marked_sheets.rs
+//! those with marked stages.
 
 use super::draw;
 use super::hand_written::{runs, A, B, LARGEST, ONE, SEVEN, THREE, TWO, UNIT, WRAPS};
@@ -78,6 +79,7 @@ pub fn all() -> Vec<String> {
     script.decided_at_a_stage_end();
     script.past_the_first_stage();
     script.not_by_a_count();
+    script.marked_plans();
     script.finish()
 }
 
