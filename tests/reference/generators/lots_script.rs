@@ -1,9 +1,13 @@
 //! A script for the program `lots`: the listing of 01, each bad form of a line,
 //! each refusal that the program can give, a sheet filled and emptied, random lines,
-//! many short lines with longer replies, and lines over the end of a block. The last
-//! line lacks its byte 10.
+//! many short lines with longer replies, lines over the end of a block, and plans with
+//! marked stages. The last line lacks its byte 10.
 
+use super::draw;
+use super::marked_edges::marked_edges;
+use super::marked_plans::{classes_of, EITHER_UNIT, INSIDE, PUBLISHED, TO_STAGE_7};
 use super::random::Random;
+use crate::lines::fields;
 use crate::model::layout::{records, FIRST_RECORD, PROGRAM_WORDS};
 use crate::model::lots::LINE_BYTES;
 
@@ -25,6 +29,10 @@ pub fn all() -> Vec<u8> {
     crowded(&mut script);
     other_letters(&mut script);
     over_block_ends(&mut script);
+    last_line(&mut script);
+    script.push(10);
+    marked_plans(&mut script);
+    last_line(&mut script);
     script
 }
 
@@ -190,12 +198,16 @@ fn filled(script: &mut Vec<u8>) {
 }
 
 fn random(script: &mut Vec<u8>, seed: u64) {
-    let mut random = Random::new(seed);
+    let random = &mut Random::new(seed);
     line(
         script,
         random.pick(&[PLAN_A, PLAN_B, "p 3 0 2 0 2 4 2 3 1 2"]),
     );
-    for _ in 0..150 {
+    random_lines(script, random, 150);
+}
+
+fn random_lines(script: &mut Vec<u8>, random: &mut Random, lines: usize) {
+    for _ in 0..lines {
         let lot = random.between(0, 6);
         let text = match random.index(12) {
             0 | 1 => format!("o {lot}"),
@@ -247,7 +259,7 @@ fn left_of_block(script: &mut Vec<u8>, bytes: usize) {
 }
 
 /// Lines that a block ends in: too long by one byte, and by many that are read before
-/// it ends; last the line that lacks its byte 10.
+/// it ends.
 fn over_block_ends(script: &mut Vec<u8>) {
     left_of_block(script, 100);
     line(script, &(wide_plan(LINE_BYTES) + "0"));
@@ -255,6 +267,79 @@ fn over_block_ends(script: &mut Vec<u8>) {
     left_of_block(script, 300);
     script.extend([b'x'; 300]);
     line(script, "t");
+}
+
+/// A line that a block ends in, without its byte 10.
+fn last_line(script: &mut Vec<u8>) {
     left_of_block(script, 6);
     script.extend(b"l 4294967295");
+}
+
+/// Plans with marked stages (02, change 1): lots decided in a marked stage, plans on
+/// both sides of each rule, the published plan, and random ones.
+fn marked_plans(script: &mut Vec<u8>) {
+    decided_in_a_marked_stage(script, EITHER_UNIT);
+    decided_in_a_marked_stage(script, INSIDE);
+    marks_refused(script);
+    marks_given(script);
+    published_plan(script);
+    let random = &mut Random::new(4_294_967_297);
+    for k in [2, 3, 5, 7] {
+        let marked = 1 + random.index(k - 1);
+        line(script, &plan_line(&draw::marked_plan(random, marked, k, 8)));
+        lines(script, &["o 1", "o 2", "o 3", "o 4", "o 5", "o 6"]);
+        random_lines(script, random, 30);
+    }
+}
+
+fn plan_line(words: &[u32]) -> String {
+    format!("p{}", fields(words))
+}
+
+fn lines(script: &mut Vec<u8>, texts: &[&str]) {
+    texts.iter().for_each(|text| line(script, text));
+}
+
+fn lot(script: &mut Vec<u8>, number: u32, classes: &[u8]) {
+    line(script, &format!("o {number}"));
+    for class in classes {
+        line(script, &format!("i {number} {class}"));
+    }
+    line(script, &format!("l {number}"));
+}
+
+fn decided_in_a_marked_stage(script: &mut Vec<u8>, plan: &[u32]) {
+    line(script, &plan_line(plan));
+    lot(script, 3, &[2, 0]);
+    lot(script, 2, &[1, 2, 0]);
+    lot(script, 1, &[0]);
+    lines(script, &["i 1 0", "s 1", "l 1", "i 1 2", "i 1 0", "l 1"]);
+    lines(script, &["c 3", "c 2", "t"]);
+}
+
+/// They leave the sheet as it is.
+fn marks_refused(script: &mut Vec<u8>) {
+    for edge in marked_edges() {
+        line(script, &plan_line(&edge.broken()));
+    }
+    line(script, "l 1");
+}
+
+fn marks_given(script: &mut Vec<u8>) {
+    for edge in marked_edges().into_iter().step_by(5) {
+        line(script, &plan_line(&edge.kept()));
+        line(script, &plan_line(&edge.broken()));
+        line(script, "o 1");
+    }
+}
+
+/// Stage 1 never accepts, stage 2 does with good units alone.
+fn published_plan(script: &mut Vec<u8>) {
+    line(script, &plan_line(PUBLISHED));
+    lot(script, 9, &[0; 32]);
+    line(script, "c 9");
+    lot(script, 4, &[2, 2, 1]);
+    lot(script, 6, &classes_of(&TO_STAGE_7[..4]));
+    lines(script, &["i 9 0"; 32]);
+    lines(script, &["l 9", "i 9 0", "c 9", "c 4", "c 6", "l 6", "t"]);
 }
