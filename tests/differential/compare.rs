@@ -19,6 +19,10 @@ type Call = fn(&[u32], Weights, &mut Lent<u64>) -> Answer;
 pub struct Comparer {
     /// The reference's sheet. The library gets a copy for each call.
     pub sheet: Sheet,
+    /// Random plans with marked stages, and such plans changed so that they are not
+    /// admitted.
+    pub marked: u64,
+    pub marked_refused: u64,
     calls: PlanCalls,
     counts: BTreeMap<(&'static str, u32), u64>,
 }
@@ -113,6 +117,8 @@ impl Comparer {
         for (function, (all, line)) in by_function {
             println!("{function}: {all} compared{line}");
         }
+        let [drawn, refused] = [self.marked, self.marked_refused];
+        println!("marked stages: {drawn} random plans, {refused} changed ones not admitted");
     }
 }
 

@@ -5,6 +5,8 @@ use crate::library::PATTERN;
 use reference::generators::hand_written::{
     runs, A, B, LARGEST, ONE, SEVEN, THREE, TWO, WEIGHTS, WRAPS,
 };
+use reference::generators::marked_edges::marked_edges;
+use reference::generators::marked_plans::{LARGEST_MARKED, PUBLISHED, SEVEN_SIX};
 use reference::generators::plan_edges::edges;
 use reference::generators::random::Random;
 use reference::generators::{draw, plan_cases};
@@ -12,10 +14,11 @@ use reference::lines::plan_lines::Case;
 use reference::model::chance::MOST_SCRATCH;
 use reference::model::earliest::Table;
 use reference::model::layout::{LEAST_WORDS, MOST_WORDS};
-use reference::model::plan::Plan;
+use reference::model::plan::{Plan, MARK, STAGE_WORDS};
 use reference::model::sheet_call::SheetCall;
 
 const SEED: u64 = 40_100_000;
+const MARKED_SEED: u64 = 40_100_001;
 
 pub fn all(comparer: &mut Comparer) -> Compared {
     let random = &mut Random::new(SEED);
@@ -24,7 +27,18 @@ pub fn all(comparer: &mut Comparer) -> Compared {
     all_lengths(comparer, random)?;
     drawn_plans(comparer, random)?;
     long_lists(comparer, random)?;
-    weights_and_scratch(comparer, random)
+    weights_and_scratch(comparer, random)?;
+    marked(comparer, &mut Random::new(MARKED_SEED))
+}
+
+/// Plans with marked stages, about as many for each k as without.
+fn marked(comparer: &mut Comparer, random: &mut Random) -> Compared {
+    marked_by_hand(comparer)?;
+    marked_long_lists(comparer, random)?;
+    marked_plans(comparer, random, 600, [2, 12])?;
+    marked_plans(comparer, random, 258, [13, 120])?;
+    marked_plans(comparer, random, 54, [121, 1_000])?;
+    marked_chances(comparer, random)
 }
 
 /// The cases that crates/vectors answers.
@@ -158,18 +172,23 @@ fn lists(comparer: &mut Comparer, random: &mut Random, words: &[u32]) -> Compare
 /// Lists of 1,000 and more classes, with and without a class above 2.
 fn long_lists(comparer: &mut Comparer, random: &mut Random) -> Compared {
     for words in [A, B, ONE, TWO, THREE, SEVEN, LARGEST[0], LARGEST[1]] {
-        let plan = Plan::admitted(words).expect("the hand-written plans are admitted");
-        let table = Table::new(&plan);
-        for length in [999, 1_000, 1_001, 1_002, 1_999, 2_000, 100_000] {
-            let list = draw::held(random, &plan, &table, plan.units(), length);
-            comparer.judge(words, &list)?;
-            for place in [0, 999, 1_000, random.index(length), length - 1] {
-                let mut other = list.clone();
-                if place < length {
-                    other[place] = random.pick(&[0, 1, 2, 3, 255]);
-                }
-                comparer.judge(words, &other)?;
+        long_lists_of(comparer, random, words)?;
+    }
+    Ok(())
+}
+
+fn long_lists_of(comparer: &mut Comparer, random: &mut Random, words: &[u32]) -> Compared {
+    let plan = Plan::admitted(words).expect("the hand-written plans are admitted");
+    let table = Table::new(&plan);
+    for length in [999, 1_000, 1_001, 1_002, 1_999, 2_000, 100_000] {
+        let list = draw::held(random, &plan, &table, plan.units(), length);
+        comparer.judge(words, &list)?;
+        for place in [0, 999, 1_000, random.index(length), length - 1] {
+            let mut other = list.clone();
+            if place < length {
+                other[place] = random.pick(&[0, 1, 2, 3, 255]);
             }
+            comparer.judge(words, &other)?;
         }
     }
     Ok(())
@@ -199,6 +218,88 @@ fn weights_and_scratch(comparer: &mut Comparer, random: &mut Random) -> Compared
             let weights = draw::weights(random, &plan);
             comparer.chance(&words, weights, scratch)?;
         }
+    }
+    Ok(())
+}
+
+fn marked_by_hand(comparer: &mut Comparer) -> Compared {
+    for edge in marked_edges() {
+        plan(comparer, &edge.kept())?;
+        plan(comparer, &edge.broken())?;
+    }
+    Ok(())
+}
+
+fn marked_long_lists(comparer: &mut Comparer, random: &mut Random) -> Compared {
+    for words in [SEVEN_SIX, PUBLISHED, LARGEST_MARKED[0], LARGEST_MARKED[1]] {
+        long_lists_of(comparer, random, words)?;
+    }
+    Ok(())
+}
+
+/// A plan of 2 to 7 stages, each k in turn, with at least one marked.
+fn marked_plan(random: &mut Random, round: usize, [least, most]: [u32; 2]) -> Vec<u32> {
+    let k = 2 + round % 6;
+    let marked = 1 + random.index(k - 1);
+    let units = random.between(least.max(k as u32), most);
+    draw::marked_plan(random, marked, k, units)
+}
+
+/// Random plans with lists of each kind, and each plan changed.
+fn marked_plans(
+    comparer: &mut Comparer,
+    random: &mut Random,
+    plans: usize,
+    units: [u32; 2],
+) -> Compared {
+    for round in 0..plans {
+        let words = marked_plan(random, round, units);
+        comparer.marked += 1;
+        lists(comparer, random, &words)?;
+        (0..4).try_for_each(|_| changed_marks(comparer, random, &words))?;
+    }
+    Ok(())
+}
+
+fn changed_marks(comparer: &mut Comparer, random: &mut Random, words: &[u32]) -> Compared {
+    let changed = with_other_marks(random, words);
+    comparer.marked_refused += u64::from(Plan::admitted(&changed).is_none());
+    plan(comparer, &changed)
+}
+
+/// A stage with other marks, with r = 0, at another place, or with a word off by one.
+fn with_other_marks(random: &mut Random, words: &[u32]) -> Vec<u32> {
+    let mut words = words.to_vec();
+    let k = words.len() / STAGE_WORDS;
+    let (stage, other) = (random.index(k), random.index(k));
+    let at = |word: usize| stage * STAGE_WORDS + word;
+    let [a1, r1, a2, r2] = [at(1), at(2), at(3), at(4)];
+    match random.index(8) {
+        0 => [words[a1], words[a2]] = [MARK; 2],
+        1 => [words[a1], words[a2]] = [MARK - 1; 2],
+        2 => [words[a1], words[a2]] = [0; 2],
+        3 => words[random.pick(&[a1, a2])] = MARK,
+        4 => words[random.pick(&[r1, r2])] = 0,
+        5 => (0..STAGE_WORDS).for_each(|word| words.swap(at(word), other * STAGE_WORDS + word)),
+        6 => words[random.pick(&[r1, r2])] += 1,
+        _ => {
+            let index = random.index(words.len());
+            words[index] = words[index].wrapping_sub(1);
+        }
+    }
+    words
+}
+
+fn marked_chances(comparer: &mut Comparer, random: &mut Random) -> Compared {
+    for round in 0..600 {
+        let words = marked_plan(random, round, [2, 90]);
+        comparer.marked += 1;
+        let plan = Plan::admitted(&words).expect("the plan is drawn as an admitted one");
+        let exact = needed(&words);
+        let scratch = random.pick(&[0, exact - 1, exact, exact, exact, exact + 1]);
+        let weights = draw::weights(random, &plan);
+        comparer.chance(&words, weights, scratch)?;
+        comparer.chance(&words, random.pick(WEIGHTS), exact)?;
     }
     Ok(())
 }

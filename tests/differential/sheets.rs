@@ -3,6 +3,7 @@
 use crate::compare::{Compared, Comparer};
 use reference::generators::full_sheets::{self, Fill};
 use reference::generators::hand_written::{A, B, ONE, SEVEN, TWO, UNIT};
+use reference::generators::marked_plans::{PUBLISHED, SEVEN_THREE};
 use reference::generators::random::Random;
 use reference::generators::{draw, sheet_cases};
 use reference::lines::sheet_lines::Command;
@@ -10,6 +11,7 @@ use reference::model::layout::*;
 use reference::model::sheet_call::SheetCall;
 
 const SEED: u64 = 65_537_047;
+const MARKED_SEED: u64 = 65_537_048;
 
 pub fn all(comparer: &mut Comparer) -> Compared {
     let random = &mut Random::new(SEED);
@@ -17,7 +19,8 @@ pub fn all(comparer: &mut Comparer) -> Compared {
     sizes(comparer, random)?;
     any_records(comparer, random)?;
     plays(comparer, random)?;
-    nearly_full(comparer, random)
+    nearly_full(comparer, random)?;
+    marked_sheets(comparer, &mut Random::new(MARKED_SEED))
 }
 
 /// The command lines that crates/sheetvectors answers.
@@ -126,19 +129,37 @@ fn plays(comparer: &mut Comparer, random: &mut Random) -> Compared {
             0 => [A, B, ONE, TWO, UNIT][round / 8 % 5].to_vec(),
             _ => draw::plan(random, 1 + round % 7, units),
         };
-        let length = random.pick(&LENGTHS);
-        comparer.new_sheet(any_words(random, length, u32::MAX));
-        comparer.on_sheet(&SheetCall::Fresh(plan))?;
-        if round % 10 == 9 {
-            // Accepted lots, so that few may be closed: 12.
-            comparer.sheet.words[CLOSED_LOTS] = random.between(MOST_CLOSED - 4, MOST_CLOSED);
-        }
-        let mix = random.pick(&[[1, 1, 1], [8, 1, 1], [2, 1, 0], [1, 0, 3], [1, 3, 1]]);
-        for turn in 0..120 {
-            comparer.on_sheet(&draw::sheet_call(random, mix))?;
-            if turn % 5 == 0 {
-                damaged(comparer, random)?;
-            }
+        play(comparer, random, plan, round)?;
+    }
+    Ok(())
+}
+
+/// Alike under plans with marked stages.
+fn marked_plays(comparer: &mut Comparer, random: &mut Random) -> Compared {
+    for round in 0..190 {
+        let k = 2 + round % 6;
+        let marked = 1 + random.index(k - 1);
+        let units = random.between(k as u32, 14);
+        let plan = draw::marked_plan(random, marked, k, units);
+        comparer.marked += 1;
+        play(comparer, random, plan, round)?;
+    }
+    Ok(())
+}
+
+fn play(comparer: &mut Comparer, random: &mut Random, plan: Vec<u32>, round: usize) -> Compared {
+    let length = random.pick(&LENGTHS);
+    comparer.new_sheet(any_words(random, length, u32::MAX));
+    comparer.on_sheet(&SheetCall::Fresh(plan))?;
+    if round % 10 == 9 {
+        // Accepted lots, so that few may be closed: 12.
+        comparer.sheet.words[CLOSED_LOTS] = random.between(MOST_CLOSED - 4, MOST_CLOSED);
+    }
+    let mix = random.pick(&[[1, 1, 1], [8, 1, 1], [2, 1, 0], [1, 0, 3], [1, 3, 1]]);
+    for turn in 0..120 {
+        comparer.on_sheet(&draw::sheet_call(random, mix))?;
+        if turn % 5 == 0 {
+            damaged(comparer, random)?;
         }
     }
     Ok(())
@@ -186,17 +207,46 @@ fn nearly_full(comparer: &mut Comparer, random: &mut Random) -> Compared {
                 unused,
                 shuffled,
             };
-            let built = full_sheets::sheet(random, length, plan, &fill);
-            comparer.new_sheet(built.words);
-            for _ in 0..12 {
-                let lot = random.pick(&built.lots);
-                let class = random.between(0, 2);
-                each_call_apart(comparer, lot, class)?;
-                each_call(comparer, lot, class)?;
-                each_call(comparer, lot + 1, class)?;
-                damaged(comparer, random)?;
-            }
+            calls_on_many_lots(comparer, random, length, plan, &fill)?;
         }
+    }
+    Ok(())
+}
+
+/// Small and large sheets under plans with marked stages.
+fn marked_sheets(comparer: &mut Comparer, random: &mut Random) -> Compared {
+    marked_plays(comparer, random)?;
+    for (length, plan, free, unused) in [
+        (PROGRAM_WORDS, PUBLISHED, 300, 40),
+        (MOST_WORDS - 1, PUBLISHED, 0, 1),
+        (room(1013) + 3, SEVEN_THREE, 0, 0),
+    ] {
+        let fill = Fill {
+            free,
+            unused,
+            shuffled: true,
+        };
+        calls_on_many_lots(comparer, random, length, plan, &fill)?;
+    }
+    Ok(())
+}
+
+fn calls_on_many_lots(
+    comparer: &mut Comparer,
+    random: &mut Random,
+    length: usize,
+    plan: &[u32],
+    fill: &Fill,
+) -> Compared {
+    let built = full_sheets::sheet(random, length, plan, fill);
+    comparer.new_sheet(built.words);
+    for _ in 0..12 {
+        let lot = random.pick(&built.lots);
+        let class = random.between(0, 2);
+        each_call_apart(comparer, lot, class)?;
+        each_call(comparer, lot, class)?;
+        each_call(comparer, lot + 1, class)?;
+        damaged(comparer, random)?;
     }
     Ok(())
 }
