@@ -8,8 +8,11 @@ import shlex
 import shutil
 import unittest
 import xml.etree.ElementTree as xml
+from collections import Counter
 from contextlib import redirect_stderr, redirect_stdout
 from fractions import Fraction
+from itertools import product
+from math import comb
 
 import haqothwe
 import oc
@@ -25,6 +28,15 @@ PUBLISHED = """\
 4 0.780695 0.688429 0.449754 0.207331
 6 0.561672 0.480158 0.293239 0.124068
 8 0.365494 0.304034 0.175054 0.068581"""
+
+# What a stage has as a1 and a2 where acceptance is not permitted (02, change 1).
+MARK = 2**32 - 1
+
+# The multiple plan of the standard tables beside the single plan 125, 3, 4: acceptance is not
+# permitted at the first of seven samples of 32 units. Both rows are alike.
+A = [MARK, 0, 1, 2, 3, 4, 6]
+R = [3, 3, 4, 5, 6, 6, 7]
+MULTIPLE = [str(number) for a, r in zip(A, R) for number in (32, a, r, a, r)]
 
 SVG = "{http://www.w3.org/2000/svg}"
 
@@ -60,6 +72,41 @@ def bounds(plan, marginal, bad):
     return [Fraction(bound, 2**40) for bound in haqothwe.chance(list(map(int, plan)), weights)]
 
 
+def samples(size, r1, r2, weights):
+    """Sums of weights of the samples of one stage, by nongood and bad units, each below its r."""
+    good, marginal, bad = weights
+    return {(nongood, bads): comb(size, nongood) * comb(nongood, bads)
+            * good**(size - nongood) * marginal**(nongood - bads) * bad**bads
+            for nongood in range(min(size + 1, r1)) for bads in range(min(nongood + 1, r2))}
+
+
+def after_stage(going_on, stage, weights):
+    """The same for all units up to the end of a stage, without those that it rejects."""
+    size, _, r1, _, r2 = stage
+    sums = Counter()
+    stage_sums = samples(size, r1, r2, weights)
+    for (before, weight), (more, more_weight) in product(going_on.items(), stage_sums.items()):
+        nongood, bads = map(sum, zip(before, more))
+        if nongood < r1 and bads < r2:
+            sums[nongood, bads] += weight * more_weight
+    return sums
+
+
+def exact_chance(plan, weights):
+    """The chance of acceptance as 01 and 02 have it: uncurtailed, by the counts at stage ends."""
+    going_on, accepted, units = {(0, 0): 1}, Fraction(0), 0
+    for stage in (plan[i:i + 5] for i in range(0, len(plan), 5)):
+        size, a1, _, a2, _ = stage
+        units += size
+        sums = after_stage(going_on, stage, weights)
+        low = {place for place in sums if place[0] <= a1 and place[1] <= a2}
+        accepting = set() if a1 == a2 == MARK else low
+        accepted += Fraction(sum(sums[place] for place in accepting), sum(weights)**units)
+        going_on = {place: sums[place] for place in sums.keys() - accepting}
+    assert not going_on
+    return accepted
+
+
 class Numbers(unittest.TestCase):
     def test_published(self):
         text = printed("--marginal", "5,10,15,20", "--bad", "2,4,6,8", *SINGLE)
@@ -81,6 +128,20 @@ class Numbers(unittest.TestCase):
                 low, high = bounds(DOUBLE, marginal, bad)
                 self.assertTrue(rounded[0] <= low < rounded[0] + unit)
                 self.assertTrue(rounded[1] - unit < high <= rounded[1])
+
+    def test_stage_that_cannot_accept(self):
+        """The exact chance lies between low and high, in the library and as printed."""
+        plan = list(map(int, MULTIPLE))
+        units = sum(plan[::5])
+        shares = ["--marginal", "0,1.5", "--bad", "0,1,2,3,5,8,10", "--digits", "12"]
+        rows = csv_rows(*shares, *MULTIPLE)
+        self.assertEqual(len(rows), 14)
+        for marginal, bad, *rounded in rows:
+            weights = [int(share * 10) for share in (100 - marginal - bad, marginal, bad)]
+            exact = exact_chance(plan, weights)
+            low, high = bounds(MULTIPLE, marginal, bad)
+            self.assertTrue(rounded[0] <= low <= exact <= high <= rounded[1], (marginal, bad))
+            self.assertLessEqual(high - low, Fraction(2 * units, 2**40))
 
     def test_table_is_csv(self):
         """The same numbers, "-" in the table where the shares would add to over 100 %."""
