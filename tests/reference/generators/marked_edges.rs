@@ -129,6 +129,10 @@ const UNITS: &[Edge] = &[
     edge(SIZE, SEVEN_SIX, &[(3, N, 1)], &[(3, N, 0)]),
     edge(SUM, TWO_ONE, &[(1, N, 990)], &[(1, N, 991)]),
     edge(SUM, SEVEN_SIX, &[(6, N, 940)], &[(6, N, 941)]),
+    // Past 1,000 before the last stage, and sums that would wrap in 32 bits.
+    edge(SUM, TWO_ONE, &[(1, N, 990)], &[(1, N, 1_001)]),
+    edge(SUM, TWO_ONE, &[(1, N, 990)], &[(1, N, M)]),
+    edge(SUM, SEVEN_SIX, &[(2, N, 940)], &[(2, N, M - 8)]),
 ];
 
 /// The rules on a over the stages that are left; Si counts marked stages too. With
