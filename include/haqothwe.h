@@ -81,6 +81,10 @@ enum haq_state { HAQ_STATE_UNDECIDED = 0, HAQ_STATE_ACCEPTED = 1, HAQ_STATE_REJE
 /* A plan has five words a stage: n, a1, r1, a2, r2; 1 to 7 stages. A class is
    0 good, 1 marginal, 2 bad. */
 
+/* As both a1 and a2 of a stage: acceptance is not permitted there. The last stage
+   is none of these, and they stand ahead of the stages with acceptance numbers. */
+#define HAQ_NOT_PERMITTED 4294967295u
+
 /* Makes an empty sheet for a plan: writes words 0 to 43. Refusals 1, 2. */
 uint32_t haq_fresh(uint32_t *sheet, size_t n, const uint32_t *plan, size_t plan_n);
 
