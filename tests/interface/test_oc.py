@@ -143,6 +143,14 @@ class Numbers(unittest.TestCase):
             self.assertTrue(rounded[0] <= low <= exact <= high <= rounded[1], (marginal, bad))
             self.assertLessEqual(high - low, Fraction(2 * units, 2**40))
 
+    def test_table_of_the_readme(self):
+        """The lows of that plan and of the single plan beside it."""
+        text = (ROOT / "README.md").read_text(encoding="utf-8")
+        for name, plan in ("in seven stages", MULTIPLE), ("125 3 4 3 4", "125 3 4 3 4".split()):
+            rows = csv_rows("--digits", "3", "--marginal", "0", "--bad", "1,2,3,5,8", *plan)
+            lows = " | ".join(f"{float(low):.3f}" for _, _, low, _ in rows)
+            self.assertIn(f"| {name} | {lows} |", text)
+
     def test_table_is_csv(self):
         """The same numbers, "-" in the table where the shares would add to over 100 %."""
         for plan in (SINGLE, DOUBLE, "1 0 1 0 1".split()):
