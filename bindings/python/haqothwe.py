@@ -9,6 +9,7 @@ from collections import namedtuple
 from pathlib import Path
 
 import plan_rules
+from plan_rules import NOT_PERMITTED
 
 UNDECIDED, ACCEPTED, REJECTED = 0, 1, 2
 

@@ -7,7 +7,7 @@
 #[path = "plan_rules.rs"]
 mod plan_rules;
 
-pub use plan_rules::broken_rules;
+pub use plan_rules::{broken_rules, NOT_PERMITTED};
 use std::error::Error;
 use std::fmt;
 

@@ -2,7 +2,7 @@
 //! bindings/python/plan_rules.py gives the same sentences.
 
 /// Both a1 and a2 of a stage where acceptance is not permitted.
-const NOT_PERMITTED: u32 = u32::MAX;
+pub const NOT_PERMITTED: u32 = u32::MAX;
 
 /// What one row has at a stage: the stage's number, the units up to its end, and
 /// a and r. The words are widened so that no sum of them wraps.

@@ -119,6 +119,12 @@ class Rules(unittest.TestCase):
         for plan, sentences in EXAMPLES:
             self.assertEqual(haqothwe.broken_rules(plan), sentences, plan)
 
+    def test_mark(self):
+        """The number in Python and in C; that of Rust is the one that its rules use."""
+        header = (ROOT / "include" / "haqothwe.h").read_text(encoding="ascii")
+        self.assertEqual(haqothwe.NOT_PERMITTED, MOST)
+        self.assertIn(f"#define HAQ_NOT_PERMITTED {MOST}u\n", header)
+
     def test_words(self):
         for number in (-1, 2**32):
             with self.assertRaises(OverflowError):
