@@ -50,7 +50,7 @@ refused-rightly plan list =
     let law = refusal-law Judged Refused (refusals plan list) (Stopped-list (judgement plan list)) (λ m k e. cc) (λ k e. let z : _≡_ {A = ℕ} 0 1 = cc in omega arith) refl in
     record {
       exactly = λ n. (λ e. law .exactly n .0 (of-reply _ n e), λ f. ap judge-reply (law .exactly n .1 f));
-      lowest = λ n m e. law .lowest n m (of-reply _ n e);
+      none-before = λ n m e. law .none-before n m (of-reply _ n e);
       never-zero = λ e. law .never-zero (of-reply _ 0 e);
     }
 

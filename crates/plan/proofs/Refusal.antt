@@ -9,7 +9,7 @@ use lib.ListN.{length}
 use lib.Dec.{leb, ltb}
 use native.Mathlib.Omega.{arith}
 use borrow.Author.Tests.{leb-true, ltb-true}
-use Rattle.plan.specs.Refusal.{Refusal, first-refusal, table, place, in-order, Applies, First, Refused-by, Refusal-law, None-applies, First-refusal, Refused-exactly}
+use Rattle.plan.specs.Refusal.{Refusal, first-refusal, table, place, in-order, Applies, First, Refusal-law, None-applies, First-refusal, Refused-exactly}
 use Rattle.plan.proofs.Bools.{and-left, and-right}
 
 module _ {A : Type 0} (refuse : ℕ → A) (granted : A) (apart : (m n : ℕ) → refuse m ≡ refuse n → m ≡ n) (not : (n : ℕ) → granted ≡ refuse n → ⊥) (n : ℕ) where
@@ -92,12 +92,12 @@ applies-after : (from m : ℕ) (rows : List Refusal) → in-order from rows ≡ 
 applies-after from m (r ∷ rest) e (inl a) = omega (arith, ap place (a .1), after-from from r rest e)
 applies-after from m (r ∷ rest) e (inr a) = omega (arith, after-from from r rest e, applies-after (place (r .number) + 1) m rest (later from r rest e) a)
 
-lowest : (from n m : ℕ) (rows : List Refusal) → in-order from rows ≡ true → First rows n → Applies rows m → place n ≤ place m
-lowest from n m (r ∷ rest) e (inl f) (inl a) = omega (arith, ap place (f .1), ap place (a .1))
-lowest from n m (r ∷ rest) e (inl f) (inr a) =
+none-before : (from n m : ℕ) (rows : List Refusal) → in-order from rows ≡ true → First rows n → Applies rows m → place n ≤ place m
+none-before from n m (r ∷ rest) e (inl f) (inl a) = omega (arith, ap place (f .1), ap place (a .1))
+none-before from n m (r ∷ rest) e (inl f) (inr a) =
     omega (arith, ap place (f .1), applies-after (place (r .number) + 1) m rest (later from r rest e) a)
-lowest from n m (r ∷ rest) e (inr f) (inl a) = let z : _≡_ {A = ℕ} 0 1 = cc (f .0, a .0) in absurd (omega arith)
-lowest from n m (r ∷ rest) e (inr f) (inr a) = lowest (place (r .number) + 1) n m rest (later from r rest e) (f .1) a
+none-before from n m (r ∷ rest) e (inr f) (inl a) = let z : _≡_ {A = ℕ} 0 1 = cc (f .0, a .0) in absurd (omega arith)
+none-before from n m (r ∷ rest) e (inr f) (inr a) = none-before (place (r .number) + 1) n m rest (later from r rest e) (f .1) a
 
 -- 0 is not in the table
 zero-place : place 0 ≡ length table
@@ -112,6 +112,6 @@ refusal-law A refuse rows granted apart not e =
     let exactly : (n : ℕ) → (first-refusal refuse rows granted ≡ refuse n) ↔ First rows n = refused-exactly A refuse rows granted apart not in
     record {
       exactly = exactly;
-      lowest = λ n m f. lowest 0 n m rows e (exactly n .0 f);
+      none-before = λ n m f. none-before 0 n m rows e (exactly n .0 f);
       never-zero = λ f. never-first 0 rows e (exactly 0 .0 f);
     }

@@ -4,7 +4,7 @@ use Prim.Native.Nat.{ℕ, _+_, _≤_}
 use mathlib.Core.Path.{_≡_}
 use mathlib.Core.Logic.{_↔_, _≢_, _⊎_}
 use mathlib.Core.Bool.{Bool, true, false, cond, _&&_}
-use mathlib.Core.List.{List, [], _∷_, _++_}
+use mathlib.Core.List.{List, [], _∷_}
 use lib.ListN.{length}
 use lib.Dec.{leb, ltb, eqb}
 
@@ -18,9 +18,9 @@ first-refusal refuse (r ∷ rest) granted = cond (r .when) (refuse (r .number)) 
 
 -- ---- the table's order
 
--- the numbers of the table, in its order
+-- the numbers of the table, in its order. Document 02, change 2, puts 17 between 13 and 14
 abbrev pub table : List ℕ
-table = 1 ∷ 2 ∷ 3 ∷ 4 ∷ 5 ∷ 6 ∷ 7 ∷ 8 ∷ 9 ∷ 10 ∷ 11 ∷ 12 ∷ 13 ∷ 14 ∷ 15 ∷ 16 ∷ []
+table = 1 ∷ 2 ∷ 3 ∷ 4 ∷ 5 ∷ 6 ∷ 7 ∷ 8 ∷ 9 ∷ 10 ∷ 11 ∷ 12 ∷ 13 ∷ 17 ∷ 14 ∷ 15 ∷ 16 ∷ []
 
 -- how many of these numbers stand before n
 abbrev pub before : ℕ → List ℕ → ℕ
@@ -52,7 +52,7 @@ First (r ∷ rest) n = ((r .when ≡ true) × (r .number ≡ n)) ⊎ ((r .when �
 -- table. No refusal has the number 0, so 0 can stand for a grant
 pub record Refused-by {A : Type 0} (refuse : ℕ → A) (rows : List Refusal) (reply : A) : Type 0 where
   pub exactly : (n : ℕ) → (reply ≡ refuse n) ↔ First rows n
-  pub lowest : (n m : ℕ) → reply ≡ refuse n → Applies rows m → place n ≤ place m
+  pub none-before : (n m : ℕ) → reply ≡ refuse n → Applies rows m → place n ≤ place m
   pub never-zero : reply ≢ refuse 0
 
 -- of every call whose rows stand in the table's order, where no two refusals and no grant look alike
