@@ -9,13 +9,15 @@ use native.Mathlib.Omega.{arith}
 use native.Mathlib.Decide.{decLt}
 use lib.ListN.{length, take, replicate, length-append, length-replicate}
 use lib.Seq.{length-take-le, take-take, take-append-seam, take-all}
+use Rattle.plan.specs.declared.counts.Counts.{Counts}
 use Rattle.plan.specs.declared.stage.Answer.{Answer}
 use Rattle.plan.specs.declared.stage.Answer.the-variants.{GoOn, Accept, Reject}
 use Rattle.plan.specs.Plan.{Stage, total}
-use Rattle.plan.specs.Counts.{units, no-units, add-units, counts}
+use Rattle.plan.specs.Counts.{units, nongood, nonbad, no-units, counts}
 use Rattle.plan.specs.Stopping.{accepts, at-filled, completed, earliest, only-reject, settled}
 use Rattle.plan.specs.Sample.{highest-class, Classes, verdict, Completion, All-have}
 use Rattle.plan.specs.Promise.{History, rank}
+use Rattle.plan.proofs.Counting.{add-good, add-bad}
 use Rattle.plan.proofs.Order.{top, bottom, accepts-worst, rejects-best, undecided, not-accepted, not-rejected}
 use Rattle.plan.proofs.Sample.{classes-append, classes-replicate, classes-take}
 use Rattle.plan.proofs.StageTests.{not-rejects-below}
@@ -114,21 +116,32 @@ module _ (p : List Stage) (l : Limits p) where
   pub right : (h : List ℕ) → History p h → Right p h
   right h k = right-within p h k (no-longer h k)
 
-  -- ---- the empty history is undecided
+  -- ---- units of one class: bad ones alone are not accepted, good ones alone not rejected, and none at all are undecided
 
-  worst-empty : (end : ℕ) (s : Stage) → Sound end s → rank (at-filled 2 no-units end s) ≤ rank GoOn
-  unfolding add-units
-  worst-empty end s m = end-case 2 no-units end s (λ a. rank a ≤ 1) (λ n. omega arith)
-      (λ n. not-accepted s (add-units 2 (end - units no-units) no-units) (ap₂ (accepts s) (omega arith) (omega arith) ∙ m .not-all-bad))
+  worst-bad : (c : Counts) → nonbad c ≡ 0 → (end : ℕ) (s : Stage) → Sound end s → rank (at-filled 2 c end s) ≤ rank GoOn
+  worst-bad c z end s m = end-case 2 c end s (λ a. rank a ≤ 1) (λ n. omega arith)
+      (λ n. rw (add-bad (end - units c) c) (not-accepted s _ (ap₂ (accepts s) (omega arith) (omega arith) ∙ m .not-all-bad)))
 
-  best-empty : (end : ℕ) (s : Stage) → Sound end s → rank GoOn ≤ rank (at-filled 0 no-units end s)
-  unfolding add-units
-  best-empty end s m = end-case 0 no-units end s (λ a. 1 ≤ rank a) (λ n. omega arith)
-      (λ n. not-rejected s (add-units 0 (end - units no-units) no-units) (not-rejects-below s _ (omega (arith, m .reject2)) (omega (arith, m .reject1))))
+  best-good : (c : Counts) → nongood c ≡ 0 → (end : ℕ) (s : Stage) → Sound end s → rank GoOn ≤ rank (at-filled 0 c end s)
+  best-good c z end s m = end-case 0 c end s (λ a. 1 ≤ rank a) (λ n. omega arith)
+      (λ n. rw (add-good (end - units c) c) (not-rejected s _ (not-rejects-below s _ (omega (arith, m .reject2)) (omega (arith, m .reject1)))))
+
+  worst-case : (c : Counts) → nonbad c ≡ 0 → rank (completed 2 0 p c) ≤ 1
+  unfolding completed
+  worst-case c z = omega (arith, first-mono Sound (at-filled 2 c) (λ end s. GoOn) (worst-bad c z) 0 p (l .sound), ap rank (first-on 0 p))
+
+  best-case : (c : Counts) → nongood c ≡ 0 → 1 ≤ rank (completed 0 0 p c)
+  unfolding completed
+  best-case c z = omega (arith, first-mono Sound (λ end s. GoOn) (at-filled 0 c) (best-good c z) 0 p (l .sound), ap rank (first-on 0 p))
+
+  pub bad-alone : (c : Counts) → nonbad c ≡ 0 → earliest p c ≢ Accept
+  unfolding earliest
+  bad-alone c z e = let k = ap rank (accepts-worst (completed 2 0 p c) (completed 0 0 p c) e) in omega (arith, worst-case c z)
+
+  pub good-alone : (c : Counts) → nongood c ≡ 0 → earliest p c ≢ Reject
+  unfolding earliest
+  good-alone c z e = let k = ap rank (rejects-best (completed 2 0 p c) (completed 0 0 p c) e) in omega (arith, best-case c z)
 
   pub empty : earliest p no-units ≡ GoOn
-  unfolding earliest completed
-  empty =
-      undecided (completed 2 0 p no-units) (completed 0 0 p no-units)
-      (omega (arith, first-mono Sound (at-filled 2 no-units) (λ end s. GoOn) worst-empty 0 p (l .sound), ap rank (first-on 0 p)))
-      (omega (arith, first-mono Sound (λ end s. GoOn) (at-filled 0 no-units) best-empty 0 p (l .sound), ap rank (first-on 0 p)))
+  unfolding earliest
+  empty = undecided (completed 2 0 p no-units) (completed 0 0 p no-units) (worst-case no-units refl) (best-case no-units refl)
