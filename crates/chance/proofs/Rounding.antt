@@ -29,10 +29,12 @@ floor-le a d = div-mul-le-self a d
 pub ceiling-ge : (a d : ℕ) → 0 < d → a ≤ rounded up a d * d
 ceiling-ge a d h = omega (arith, lt-div-mul-add {a = a + (d - 1)} {b = d} h)
 
--- a mean is at most what its values are
-pub rounded-le : (r : Rounding) (n d most : ℕ) → 0 < d → n ≤ d * most → rounded r n d ≤ most
-rounded-le down n d most h l = div-le-of-le-mul d l
-rounded-le up n d most h l = omega (arith, div-below d (n + (d - 1)) (most + 1) h (simp add-mul (omega (arith, mul-comm d most))))
+-- a mean is at most what its values are; divided by 0 it is 0
+pub rounded-le : (r : Rounding) (n d most : ℕ) → n ≤ d * most → rounded r n d ≤ most
+rounded-le down n d most l = div-le-of-le-mul d l
+rounded-le up n zero most l = simp div-zero (omega arith)
+rounded-le up n (suc e) most l =
+    omega (arith, div-below (suc e) (n + (suc e - 1)) (most + 1) (omega arith) (simp add-mul (omega (arith, mul-comm (suc e) most))))
 
 pub rounded-zero : (r : Rounding) (d : ℕ) → rounded r 0 d ≡ 0
 rounded-zero down d = zero-div d

@@ -1,7 +1,7 @@
 -- One state of a layer: where its word stands, what its step reads, and what its value is.
 -- Assumes nothing.
 use Prim.Native.Nat.{ℕ, _+_, _*_, _≤_, _<_}
-use mathlib.Core.Path.{_≡_, refl, sym, ap, _∙_}
+use mathlib.Core.Path.{_≡_, refl, ap, _∙_}
 use mathlib.Core.Bool.{Bool, true, false, cond}
 use mathlib.Core.List.{List}
 use lib.ListN.{getD}
@@ -13,7 +13,8 @@ use Rattle.plan.specs.declared.counts.Counts.{Counts}
 use Rattle.chance.specs.declared.mean.Weights.{Weights}
 use Rattle.chance.specs.declared.setting.Setting.{Setting}
 use Rattle.chance.specs.Bounds.{weight-sum, weighted, Rounding, rounded}
-use Rattle.chance.specs.Layer.{rounding, left-of, weights-by, setting-weights, at, word, further, Values}
+use Rattle.chance.specs.Chance.{left-of}
+use Rattle.chance.specs.Layer.{rounding, setting-weights, at, word, further, Values}
 use Rattle.chance.proofs.Rounding.{rounded-le}
 
 -- ---- the mean of three values, none above m
@@ -28,8 +29,8 @@ module _ (w : Weights) {m good marginal bad : ℕ} (h : (good ≤ m) × (margina
   pub products : Products w m good marginal bad
   products = record { of-good = mul-le-mul-left (w .good) (h .0); of-marginal = mul-le-mul-left (w .marginal) (h .1); of-bad = mul-le-mul-left (w .bad) (h .2) }
 
-  pub mean-at-most : (r : Rounding) → 0 < weight-sum w → rounded r (weighted w good marginal bad) (weight-sum w) ≤ m
-  mean-at-most r some = rounded-le r (weighted w good marginal bad) (weight-sum w) m some (simp add-mul (omega (arith, products)))
+  pub mean-at-most : (r : Rounding) → rounded r (weighted w good marginal bad) (weight-sum w) ≤ m
+  mean-at-most r = rounded-le r (weighted w good marginal bad) (weight-sum w) m (simp add-mul (omega (arith, products)))
 
 -- weights do not rise
 pub weights-few : (s : Setting) (c : Counts) → weight-sum (setting-weights s c) ≤ weight-sum (s .weights)
@@ -39,8 +40,8 @@ weights-few s c = go (s .left)
     go true = omega arith
     go false = omega arith
 
-pub constant-weights : (s : Setting) (c : Counts) → s .left ≡ false → s .weights ≡ setting-weights s c
-constant-weights s c e = ap (λ (t : Bool). weights-by t (s .weights) c) (sym e)
+pub constant-weights : (s : Setting) (c d : Counts) → s .left ≡ false → setting-weights s c ≡ setting-weights s d
+constant-weights s c d e = rw e
 
 -- ---- the word of a state
 
@@ -95,7 +96,7 @@ module _ (s : Setting) (before : List ℕ) (y g b : ℕ) where
       (word-same (s .r1) (s .r2) layer (g + 1) (b + 1) before (next ((g + 1) * s .r2 + (b + 1)) (omega arith)))
       refl
 
-  pub further-at-most : (m : ℕ) → Values (s .r1 * s .r2) m before → 0 < weight-sum (setting-weights s (at y g b)) → further s before y g b ≤ s .cost + m
-  further-at-most m h some =
+  pub further-at-most : (m : ℕ) → Values (s .r1 * s .r2) m before → further s before y g b ≤ s .cost + m
+  further-at-most m h =
       let at-most : (g b : ℕ) → word (s .r1) (s .r2) before g b ≤ m = λ g b. word-at-most (s .r1) (s .r2) before g b m h in
-      omega (arith, mean-at-most (setting-weights s (at y g b)) (at-most g b, at-most (g + 1) b, at-most (g + 1) (b + 1)) (rounding (s .up)) some)
+      omega (arith, mean-at-most (setting-weights s (at y g b)) (at-most g b, at-most (g + 1) b, at-most (g + 1) (b + 1)) (rounding (s .up)))

@@ -1,5 +1,5 @@
 -- The chance of acceptance: its bounds low and high, and the exact sum N. Document 01, "Chance of acceptance".
-use Prim.Native.Nat.{ℕ, _*_, _^_}
+use Prim.Native.Nat.{ℕ, _-_, _*_, _^_}
 use mathlib.Core.List.{List}
 use Rattle.plan.specs.declared.counts.Counts.{Counts}
 use Rattle.plan.specs.declared.stage.Answer.{Answer}
@@ -22,6 +22,10 @@ chance-value p weights = record { decision = earliest p; weights = weights; acce
 -- the same weights at each unit
 abbrev pub constant : Weights → Counts → Weights
 constant w c = w
+
+-- or what is left of each class of a lot after the counts c; a class used up weighs 0
+abbrev pub left-of : Weights → Counts → Weights
+left-of w c = record { good = w .good - c .good; marginal = w .marginal - c .marginal; bad = w .bad - c .bad }
 
 -- the value before any unit, with S units left
 abbrev pub chance-bound : Rounding → List Stage → Weights → ℕ

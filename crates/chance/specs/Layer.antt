@@ -17,15 +17,11 @@ use Rattle.chance.specs.declared.setting.Setting.{Setting}
 use Rattle.chance.specs.declared.division.Reciprocal.{Reciprocal}
 use Rattle.chance.specs.declared.answers.Bounds.{Bounds}
 use Rattle.chance.specs.Bounds.{weight-sum, weighted, Rounding, down, up, rounded, Valuation, step, bound}
-use Rattle.chance.specs.Chance.{scale}
+use Rattle.chance.specs.Chance.{scale, left-of}
 
 abbrev pub rounding : Bool → Rounding
 rounding false = down
 rounding true = up
-
--- what is left of each weight after the counts c, and not below 0
-abbrev pub left-of : Weights → Counts → Weights
-left-of w c = record { good = w .good - c .good; marginal = w .marginal - c .marginal; bad = w .bad - c .bad }
 
 -- constant weights, or what is left of them
 abbrev pub weights-by : Bool → Weights → Counts → Weights

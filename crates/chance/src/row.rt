@@ -44,8 +44,9 @@ fn edge_value(layer: &[u64], r1: usize, r2: usize, g: usize, b: usize) -> u64
     }
 }
 
-// The states between two numbers of bad units, where inspection goes on, with constant weights. From the last to
-// the first: the value after a bad unit is that which the state before had after a marginal one.
+// The states between two numbers of bad units, where inspection goes on, with constant weights, which are asked for
+// once. From the last to the first: the value after a bad unit is that which the state before had after a marginal
+// one.
 fn go_on(layer: &mut [u64], s: Setting, d: Reciprocal, y: usize, g: usize, from: usize, to: usize)
     requires { ⌜ Valued (now layer) s ⌝ }
     requires { ⌜ Between s d y g to ⌝ }
@@ -55,7 +56,7 @@ fn go_on(layer: &mut [u64], s: Setting, d: Reciprocal, y: usize, g: usize, from:
 {
     let r1 = s.r1;
     let r2 = s.r2;
-    let w = s.weights;
+    let w = weights_at(s, y, g, 0);
     let start = g * r2;
     let mut bad = edge_value(layer, r1, r2, g + 1, to);
     let mut b = to;
@@ -69,7 +70,8 @@ fn go_on(layer: &mut [u64], s: Setting, d: Reciprocal, y: usize, g: usize, from:
     }
 }
 
-// The same with weights that fall. It is a loop of its own because a test in the other one slows that by a third.
+// The same with weights that fall, which are asked for at each state. With this loop alone constant weights would
+// take a quarter more time.
 fn draw_on(layer: &mut [u64], s: Setting, d: Reciprocal, y: usize, g: usize, from: usize, to: usize)
     requires { ⌜ Valued (now layer) s ⌝ }
     requires { ⌜ Between s d y g to ⌝ }
