@@ -47,14 +47,20 @@ chart-values (ChartAnswer.Refused n) = []
 abbrev pub needed : List ℕ → ℕ
 needed plan = 2 * (last-reject1 (stages plan) * last-reject2 (stages plan))
 
--- the rows of the table "Refused", with n words of scratch: the plan is not admitted; the weights add to 0 or above
--- 1,000,000; the scratch is too small
+-- rows of the table "Refused": the plan is not admitted
+abbrev pub plan-row : List ℕ → Refusal
+plan-row plan = record { number = 2; when = not (admitted plan) }
+
+-- the weights add to 0 or above 1,000,000
+abbrev pub weights-row : Weights → Refusal
+weights-row w = record { number = 13; when = eqb (weight-sum w) 0 || ltb 1000000 (weight-sum w) }
+
+-- n words of scratch are too few
+abbrev pub scratch-row : List ℕ → ℕ → Refusal
+scratch-row plan n = record { number = 14; when = ltb n (needed plan) }
+
 abbrev pub refusals : List ℕ → Weights → ℕ → List Refusal
-refusals plan w n =
-    record { number = 2; when = not (admitted plan) }
-    ∷ record { number = 13; when = eqb (weight-sum w) 0 || ltb 1000000 (weight-sum w) }
-    ∷ record { number = 14; when = ltb n (needed plan) }
-    ∷ []
+refusals plan w n = plan-row plan ∷ weights-row w ∷ scratch-row plan n ∷ []
 
 -- ---- the answers
 
@@ -95,10 +101,14 @@ Exact-chart plan w (ChartAnswer.Refused number) = Unit {0}
 
 -- ---- the scratch
 
--- how many words of the scratch a call may change: none where it is refused
-unfoldable pub written : List ℕ → Weights → ℕ → ℕ
-written plan w n = first-refusal (λ number. 0) (refusals plan w n) (needed plan)
+-- how many words of the scratch a call with these rows may change: none where it is refused, else those that the plan needs
+unfoldable pub written : List Refusal → List ℕ → ℕ
+written rows plan = first-refusal (λ number. 0) rows (needed plan)
 
 -- all other words of the scratch are as before
+abbrev pub Kept : List Refusal → List ℕ → List ℕ → List ℕ → Type 0
+Kept rows plan before after = drop (written rows plan) after ≡ drop (written rows plan) before
+
+-- of `chance` and `chart`
 abbrev pub Keeps : List ℕ → Weights → List ℕ → List ℕ → Type 0
-Keeps plan w before after = drop (written plan w (length before)) after ≡ drop (written plan w (length before)) before
+Keeps plan w before after = Kept (refusals plan w (length before)) plan before after
