@@ -12,4 +12,8 @@ mod InPlace
 mod Induction
 mod Parts
 mod Replies
+mod Draws
+mod LotLaw
+mod Certain
+mod LotReplies
 pub mod Laws

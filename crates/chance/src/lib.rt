@@ -1,4 +1,5 @@
-// Bounds on the chance of acceptance, as whole numbers of 2^-40 and as floats. Document 01, "Chance of acceptance".
+// Bounds on the chance of acceptance, as whole numbers of 2^-40 and as floats (document 01, "Chance of acceptance"),
+// and on that of a lot of known size (document 02, change 2).
 // They come by backward induction over layers: a layer has the value of each state that so many units can reach,
 // and stands in a run of words.
 mod acceptance;
@@ -8,6 +9,7 @@ mod bounding;
 mod charting;
 mod division;
 mod layer;
+mod lot;
 mod mean;
 mod row;
 mod setting;
@@ -18,3 +20,4 @@ pub use answers::BoundsAnswer;
 pub use answers::Chart;
 pub use answers::ChartAnswer;
 pub use charting::chart;
+pub use lot::lot_chance;
