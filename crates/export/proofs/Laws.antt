@@ -13,7 +13,7 @@ use Rattle.sheetmodel.specs.declared.reply.Estimated.the-variants as estimated
 use Rattle.sheetmodel.specs.Reply.{done-reply, look-reply, tally-reply, estimate-reply}
 use Rattle.sheetmodel.proofs.Demand1.{demand-1}
 use Rattle.judge.proofs.Laws.{refused-rightly}
-use Rattle.chance.proofs.Laws.{refusal-law}
+use Rattle.chance.proofs.Laws.{refusal-law, lot-refusal-law}
 use Rattle.export.specs.Laws.{Zero-exactly, Zero-law}
 
 -- ---- an answer that is no refusal with the number 0
@@ -53,4 +53,5 @@ zero-law = record {
   judging = λ p list. of-reply _ (refused-rightly p list .never-zero);
   chance = λ p w n. of-reply _ (refusal-law p w n .0 .never-zero);
   charting = λ p w n. of-reply _ (refusal-law p w n .1 .never-zero);
+  lot-chance = λ p lot n. of-reply _ (lot-refusal-law p lot n .never-zero);
 }

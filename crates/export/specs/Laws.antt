@@ -11,6 +11,7 @@ use Rattle.sheetmodel.specs.Estimate.{estimate}
 use Rattle.judge.specs.Judge.{judged, judge-reply}
 use Rattle.chance.specs.declared.mean.Weights.{Weights}
 use Rattle.chance.specs.Reply.{bounds-reply, chart-reply, chance-answer, chart-answer}
+use Rattle.chance.specs.Lot.{lot-answer}
 use Rattle.export.specs.Returned.{number}
 
 abbrev pub Granted : Reply → Type 0
@@ -33,3 +34,4 @@ pub record Zero-law : Type 0 where
   pub judging : (p list : List ℕ) → Zero-exactly (judge-reply (judged p list))
   pub chance : (p : List ℕ) (w : Weights) (n : ℕ) → Zero-exactly (bounds-reply (chance-answer p w n))
   pub charting : (p : List ℕ) (w : Weights) (n : ℕ) → Zero-exactly (chart-reply (chart-answer p w n))
+  pub lot-chance : (p : List ℕ) (lot : Weights) (n : ℕ) → Zero-exactly (bounds-reply (lot-answer p lot n))

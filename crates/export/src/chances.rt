@@ -1,10 +1,11 @@
-// The chance of acceptance, as whole numbers of 2^-40 and as floats. Document 01, "Chance of acceptance" and
-// "Refused".
+// The chance of acceptance, as whole numbers of 2^-40 and as floats, and that of a lot of known size. Document 01,
+// "Chance of acceptance" and "Refused"; document 02, change 2.
 use chance::BoundsAnswer;
 use chance::ChartAnswer;
 ghost use mathlib.Core.Path.{_≡_};
 ghost use lib.ListN.{length};
 ghost use Rattle.chance.specs.Reply.{weights-of, bounds-reply, chart-reply, chart-values, chance-answer, chart-answer, Exact-chart, Keeps};
+ghost use Rattle.chance.specs.Lot.{lot-answer, Lot-keeps};
 ghost use Rattle.export.specs.Returned.{number, left, left-floats};
 
 // Out: low, high.
@@ -49,6 +50,29 @@ pub extern "C" fn haq_chart(
         ChartAnswer::Refused(n) => n,
         ChartAnswer::Pair(c) => {
             *out = [c.low, c.high];
+            0
+        }
+    }
+}
+
+// Out: low, high.
+#[no_mangle]
+pub extern "C" fn haq_lot_chance(
+    plan: &[u32],
+    good: u32,
+    marginal: u32,
+    bad: u32,
+    scratch: &mut [u64],
+    out: &mut [u64; 2],
+) -> u32
+    ensures { λ r. ⌜ r ≡ number (bounds-reply (lot-answer (now (plan .entry)) (weights-of good marginal bad) (length (now (scratch .entry))))) ⌝ }
+    ensures { λ _. ⌜ now (out .exit) ≡ left (bounds-reply (lot-answer (now (plan .entry)) (weights-of good marginal bad) (length (now (scratch .entry))))) (now (out .entry)) ⌝ }
+    ensures { λ _. ⌜ Lot-keeps (now (plan .entry)) (weights-of good marginal bad) (now (scratch .entry)) (now (scratch .exit)) ⌝ }
+{
+    match chance::lot_chance(plan, good, marginal, bad, scratch) {
+        BoundsAnswer::Refused(n) => n,
+        BoundsAnswer::Pair(b) => {
+            *out = [b.low, b.high];
             0
         }
     }
