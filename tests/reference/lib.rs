@@ -1,7 +1,8 @@
-//! A second implementation of 01, the scope document, that shares no code with
-//! the library under crates/: the test oracle. Each part uses those before it.
+//! A second implementation of 01, the scope document, with changes 1 and 2 of 02,
+//! that shares no code with the library under crates/: the test oracle. Each part
+//! uses those before it.
 //!
-//! - `model`: what 01 says.
+//! - `model`: what these documents say.
 //! - `lines`: calls as lines of text, and their answers by the model.
 //! - `generators`: inputs, hand-written and seeded.
 //! - `checks`: of the model itself, and of what the inputs cover.

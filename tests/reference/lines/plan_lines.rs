@@ -8,17 +8,20 @@
 //!   units of 2^-40, or `no 2`, `no 13`, `no 14` (01 "Chance of acceptance").
 //! - `f` and the same fields: the bit patterns of the chart's two floats, or the
 //!   same refusals.
+//! - `l`, the good, marginal and bad units of a lot, the words of scratch and plan
+//!   words: low and high, or `no 2`, `no 17`, `no 14` (02, change 2).
 
 use super::reply_text;
 use crate::model::chance;
 use crate::model::plan::Plan;
-use crate::model::plan_calls::{ChanceCall, PlanCalls};
+use crate::model::plan_calls::{ChanceCall, LotChanceCall, PlanCalls};
 
 pub enum Case {
     Admission(Vec<u32>),
     Judged(Vec<u8>, Vec<u32>),
     Chance(ChanceCall),
     Chart(ChanceCall),
+    LotChance(LotChanceCall),
 }
 
 impl Case {
@@ -29,8 +32,9 @@ impl Case {
             ["j", list, ref words @ ..] => classes(list)
                 .zip(numbers(words))
                 .map(|(list, words)| Case::Judged(list, words)),
-            ["c", ref call @ ..] => taken(call).map(Case::Chance),
-            ["f", ref call @ ..] => taken(call).map(Case::Chart),
+            ["c", ref call @ ..] => chance_call(call).map(Case::Chance),
+            ["f", ref call @ ..] => chance_call(call).map(Case::Chart),
+            ["l", ref call @ ..] => lot_chance_call(call).map(Case::LotChance),
             _ => None,
         };
         case.ok_or_else(|| format!("not a case: {line}"))
@@ -46,15 +50,30 @@ fn number(field: &str) -> Option<u32> {
     field.parse().ok().filter(|_| digits)
 }
 
-fn taken(fields: &[&str]) -> Option<ChanceCall> {
-    let [w0, w1, w2, scratch, ref words @ ..] = numbers(fields)?[..] else {
+fn chance_call(fields: &[&str]) -> Option<ChanceCall> {
+    let (weights, scratch, words) = taken(fields)?;
+    Some(ChanceCall {
+        weights,
+        scratch,
+        words,
+    })
+}
+
+fn lot_chance_call(fields: &[&str]) -> Option<LotChanceCall> {
+    let (lot, scratch, words) = taken(fields)?;
+    Some(LotChanceCall {
+        lot,
+        scratch,
+        words,
+    })
+}
+
+/// A number for each class, the words of scratch, and plan words.
+fn taken(fields: &[&str]) -> Option<([u32; 3], u32, Vec<u32>)> {
+    let [good, marginal, bad, scratch, ref words @ ..] = numbers(fields)?[..] else {
         return None;
     };
-    Some(ChanceCall {
-        weights: [w0, w1, w2],
-        scratch,
-        words: words.to_vec(),
-    })
+    Some(([good, marginal, bad], scratch, words.to_vec()))
 }
 
 /// The classes after the dot.
@@ -76,6 +95,7 @@ pub fn answer(calls: &mut PlanCalls, line: &str) -> Result<String, String> {
         }
         Case::Chance(call) => calls.chance(&call).map(Vec::from),
         Case::Chart(call) => calls.chance(&call).map(chance::chart).map(Vec::from),
+        Case::LotChance(call) => calls.lot_chance(&call).map(Vec::from),
     };
     Ok(reply_text(reply))
 }

@@ -37,12 +37,18 @@ pub fn needed(plan: &Plan) -> u64 {
 
 /// The pair before any unit, for weights that don't add to 0.
 pub fn bounds(plan: &Plan, table: &Table, weights: Weights) -> Bounds {
+    bounds_by(plan, table, |_, _| weights)
+}
+
+/// Alike with the weights of each step, by y and counts; they don't add to 0 before
+/// S units.
+pub fn bounds_by(plan: &Plan, table: &Table, weights: impl Fn(usize, Counts) -> Weights) -> Bounds {
     [Rounding::Down, Rounding::Up].map(|rounding| {
         let cells = (plan.units() as u64 + 1) * needed(plan) / 2;
         let mut recursion = Recursion {
             plan,
             table,
-            weights,
+            weights: &weights,
             rounding,
             found: vec![None; cells as usize],
         };
@@ -70,15 +76,15 @@ pub fn chart(bounds: Bounds) -> [u64; 2] {
 }
 
 /// 01's recursion, top down, with the values found so far by y and counts.
-struct Recursion<'a> {
+struct Recursion<'a, W> {
     plan: &'a Plan,
     table: &'a Table,
-    weights: Weights,
+    weights: &'a W,
     rounding: Rounding,
     found: Vec<Option<u64>>,
 }
 
-impl Recursion<'_> {
+impl<W: Fn(usize, Counts) -> Weights> Recursion<'_, W> {
     fn value(&mut self, y: usize, counts: Counts) -> u64 {
         match self.table.at(y, counts) {
             ACCEPTED => UNITS,
@@ -92,12 +98,17 @@ impl Recursion<'_> {
         if let Some(value) = self.found[cell] {
             return value;
         }
-        let mut product = |class: u8| {
-            let after = self.value(y + 1, counts.after(class));
-            u128::from(self.weights[usize::from(class)]) * u128::from(after)
+        let weights = (self.weights)(y, counts);
+        // A class that weighs 0 isn't followed: there may be no such unit.
+        let mut product = |class: u8| match weights[usize::from(class)] {
+            0 => 0,
+            weight => {
+                let after = self.value(y + 1, counts.after(class));
+                u128::from(weight) * u128::from(after)
+            }
         };
         let products = product(0) + product(1) + product(2);
-        let whole = u128::from(sum(self.weights));
+        let whole = u128::from(sum(weights));
         let value = match self.rounding {
             Rounding::Down => products / whole,
             Rounding::Up => products.div_ceil(whole),

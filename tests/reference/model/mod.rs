@@ -1,8 +1,8 @@
-//! What 01 says.
+//! What 01 says, and changes 1 and 2 of 02.
 //!
 //! - "Plan", "Four ways to stop": plan, earliest, judge.
-//! - "Lists, events, estimates", "Chance of acceptance": judge, chance, and
-//!   plan_calls, which has their refusals.
+//! - "Lists, events, estimates", "Chance of acceptance": judge, chance,
+//!   lot_chance (02, change 2), and plan_calls, which has their refusals.
 //! - "Sheet": layout, chains, sheet, and sheet_call, a call as a value.
 //! - "Program lots": lots.
 
@@ -11,6 +11,7 @@ pub mod chance;
 pub mod earliest;
 pub mod judge;
 pub mod layout;
+pub mod lot_chance;
 pub mod lots;
 pub mod plan;
 pub mod plan_calls;

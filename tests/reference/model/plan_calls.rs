@@ -1,15 +1,24 @@
-//! Judge and chance as calls on the words of a plan, with their refusals. Where
-//! several apply the lowest is given (01 "Refused").
+//! Judge and the chances as calls on the words of a plan, with their refusals. Where
+//! several apply the lowest is given (01 "Refused"), except that 17 follows 13 and
+//! precedes 14 (02, change 2).
 
 use super::chance::{self, Bounds, Weights, MOST_WEIGHT};
 use super::earliest::Table;
 use super::judge::{judge, Judgement};
+use super::lot_chance::{self, Lot, MOST_UNITS_OF_LOT};
 use super::plan::Plan;
 use super::Reply;
 
 /// What a chance and a chart take.
 pub struct ChanceCall {
     pub weights: Weights,
+    pub scratch: u32,
+    pub words: Vec<u32>,
+}
+
+/// What the chance of a lot of known size takes.
+pub struct LotChanceCall {
+    pub lot: Lot,
     pub scratch: u32,
     pub words: Vec<u32>,
 }
@@ -39,6 +48,18 @@ impl PlanCalls {
             return Err(14);
         }
         Ok(chance::bounds(plan, table, call.weights))
+    }
+
+    pub fn lot_chance(&mut self, call: &LotChanceCall) -> Reply<Bounds> {
+        let (plan, table) = self.plan(&call.words).ok_or(2_u32)?;
+        let least = plan.units() as u64;
+        if !(least..=MOST_UNITS_OF_LOT).contains(&lot_chance::units(call.lot)) {
+            return Err(17);
+        }
+        if u64::from(call.scratch) < chance::needed(plan) {
+            return Err(14);
+        }
+        Ok(lot_chance::bounds(plan, table, call.lot))
     }
 
     fn plan(&mut self, words: &[u32]) -> Option<(&Plan, &Table)> {
