@@ -70,7 +70,7 @@ pub fn around_the_sum(words: &[u32], weights: Weights) -> Result<(), String> {
 }
 
 /// low <= high <= 2^40 and high - low <= 2 * S.
-fn close(plan: &Plan, [low, high]: Bounds) -> bool {
+pub fn close(plan: &Plan, [low, high]: Bounds) -> bool {
     low <= high && high <= UNITS && high - low <= 2 * plan.units() as u64
 }
 

@@ -1,6 +1,7 @@
 //! Checks of the model itself, and of what the generators cover.
 
 mod chance_selftest;
+mod lot_chance_selftest;
 mod marked_selftest;
 mod plan_selftest;
 mod sheet_histories;
@@ -22,6 +23,9 @@ pub fn selftest() -> Result<(), String> {
     eprintln!(
         "selftest passed: alike with marked stages, {stops} stops, {in_marked} accept in one"
     );
+    let plans = 400;
+    let [lots, draws] = lot_chance_selftest::run(plans)?;
+    eprintln!("selftest passed: {plans} random plans with lots, {lots} by their {draws} draws");
     Ok(())
 }
 

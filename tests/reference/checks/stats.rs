@@ -3,11 +3,12 @@
 use crate::generators::plan_cases;
 use crate::lines::plan_lines::Case;
 use crate::model::chance::{Bounds, UNITS};
-use crate::model::earliest::{few_completions, Stop};
+use crate::model::earliest::{few_completions, Stop, Table};
 use crate::model::judge::Judgement;
-use crate::model::plan::{broken, Plan, STAGE_WORDS};
-use crate::model::plan_calls::{ChanceCall, PlanCalls};
-use std::collections::BTreeMap;
+use crate::model::lot_chance::{self, Lot};
+use crate::model::plan::{broken, Counts, Plan, BOTH, STAGE_WORDS};
+use crate::model::plan_calls::PlanCalls;
+use std::collections::{BTreeMap, HashSet};
 
 /// Counts by a text that says what is counted.
 type Tally = BTreeMap<String, usize>;
@@ -25,12 +26,23 @@ pub fn write() -> Result<(), String> {
                 Err(number) => count(&mut tally, format!("j: refused {number}")),
             },
             Case::Chance(call) => match calls.chance(&call) {
-                Ok(bounds) => chance(&mut tally, &call, bounds),
+                Ok(bounds) => {
+                    let zeros = zeros(call.weights);
+                    count(&mut tally, format!("c: {zeros} weights of 0"));
+                    chance(&mut tally, "c", &call.words, bounds)
+                }
                 Err(number) => count(&mut tally, format!("c: refused {number}")),
             },
             Case::Chart(call) => match calls.chance(&call) {
                 Ok(_) => count(&mut tally, "f: floats".to_string()),
                 Err(number) => count(&mut tally, format!("f: refused {number}")),
+            },
+            Case::LotChance(call) => match calls.lot_chance(&call) {
+                Ok(bounds) => {
+                    lot(&mut tally, call.lot, &call.words);
+                    chance(&mut tally, "l", &call.words, bounds)
+                }
+                Err(number) => count(&mut tally, format!("l: refused {number}")),
             },
         }
     }
@@ -117,20 +129,61 @@ fn stop(tally: &mut Tally, list: &[u8], plan: &Plan, stop: Stop) {
     }
 }
 
-fn chance(tally: &mut Tally, call: &ChanceCall, [low, high]: Bounds) {
-    count(tally, format!("c: k = {}", call.words.len() / STAGE_WORDS));
-    count(tally, format!("c: {} weights of 0", zeros(call)));
+/// Low and high of a line of this kind.
+fn chance(tally: &mut Tally, kind: &str, words: &[u32], [low, high]: Bounds) {
+    count(tally, format!("{kind}: k = {}", words.len() / STAGE_WORDS));
     let size = match high - low {
         0 => "low = high",
         1..=9 => "high - low to 9",
         _ => "high - low from 10",
     };
-    count(tally, format!("c: {size}"));
+    count(tally, format!("{kind}: {size}"));
     if low > UNITS / 100 && high < UNITS / 100 * 99 {
-        count(tally, "c: chance from 0.01 to 0.99".to_string());
+        count(tally, format!("{kind}: chance from 0.01 to 0.99"));
     }
 }
 
-fn zeros(call: &ChanceCall) -> usize {
-    call.weights.iter().filter(|&&weight| weight == 0).count()
+fn zeros(numbers: [u32; 3]) -> usize {
+    numbers.iter().filter(|&&number| number == 0).count()
+}
+
+fn lot(tally: &mut Tally, lot: Lot, words: &[u32]) {
+    count(tally, format!("l: {} classes without a unit", zeros(lot)));
+    let plan = Plan::admitted(words).expect("a plan that is not admitted is refused");
+    let size = match lot_chance::units(lot) - plan.units() as u64 {
+        0 => "a lot of S units",
+        1..=9 => "a lot of up to S + 9 units",
+        10..=999 => "a lot of up to S + 999 units",
+        _ => "a lot of S + 1000 units or more",
+    };
+    count(tally, format!("l: {size}"));
+    for class in used_up(&plan, lot) {
+        count(tally, format!("l: class {class} used up while undecided"));
+    }
+}
+
+/// The classes of which a draw may take the last unit and be undecided then.
+fn used_up(plan: &Plan, lot: Lot) -> Vec<usize> {
+    let table = Table::new(plan);
+    let mut used_up = [false; 3];
+    let mut reached = HashSet::from([[0; 3]]);
+    for y in 0..plan.units() {
+        let undecided = |&[_, marginal, bad]: &Lot| {
+            let [nongood, bad] = [marginal + bad, bad].map(u64::from);
+            table.at(y, Counts { nongood, bad }) == BOTH
+        };
+        reached.retain(undecided);
+        for drawn in std::mem::take(&mut reached) {
+            for class in 0..3 {
+                let mut after = drawn;
+                after[class] += 1;
+                if drawn[class] < lot[class] {
+                    reached.insert(after);
+                } else {
+                    used_up[class] |= lot[class] > 0;
+                }
+            }
+        }
+    }
+    (0..3).filter(|&class| used_up[class]).collect()
 }

@@ -1,8 +1,10 @@
-//! Random admitted plans, random lists and weights for them, random calls on a sheet.
+//! Random admitted plans, random lists, weights and lots for them, random calls on a
+//! sheet.
 
 use super::random::Random;
 use crate::model::chance::{Weights, MOST_WEIGHT};
 use crate::model::earliest::Table;
+use crate::model::lot_chance::Lot;
 use crate::model::plan::{Counts, Plan, Stage, BAD, BOTH, MARK, MOST_R1, NONGOOD};
 use crate::model::sheet_call::SheetCall;
 
@@ -128,6 +130,47 @@ pub fn weights(random: &mut Random, plan: &Plan) -> Weights {
         3 => [MOST_WEIGHT as u32 - marginal - bad, marginal, bad],
         _ => [good, marginal, bad],
     }
+}
+
+/// A lot of S units, of few more, or of any number up to the most.
+pub fn lot(random: &mut Random, plan: &Plan, most: u32) -> Lot {
+    let units = plan.units() as u32;
+    let size = match random.index(4) {
+        0 => units,
+        1 => units + random.between(1, 4),
+        2 => units + random.between(0, 2 * units),
+        _ => random.at_ends_or_between(units, most),
+    };
+    lot_of(random, plan, size)
+}
+
+/// A lot of this size: a fixed mix, one near the plan's numbers, nongood units up to
+/// about these, or any.
+pub fn lot_of(random: &mut Random, plan: &Plan, size: u32) -> Lot {
+    match random.index(4) {
+        0 => shares(size, random.pick(&MIXES)),
+        1 => shares(size, fitting_mix(plan)),
+        2 => {
+            let [r1, r2] = plan.last().r.map(|r| r as u32);
+            split(random, size, [r1, r2])
+        }
+        _ => split(random, size, [size, size]),
+    }
+}
+
+/// A lot of this size with up to so many marginal and bad units.
+fn split(random: &mut Random, size: u32, [marginal, bad]: [u32; 2]) -> Lot {
+    let marginal = random.at_ends_or_between(0, marginal.min(size));
+    let bad = random.at_ends_or_between(0, bad.min(size - marginal));
+    [size - marginal - bad, marginal, bad]
+}
+
+/// A lot of this size with the classes of a mix; what is lost by rounding is good.
+pub fn shares(size: u32, mix: [u32; 3]) -> Lot {
+    let whole: u64 = mix.iter().map(|&part| u64::from(part)).sum();
+    let share = |part: u32| (u64::from(size) * u64::from(part) / whole) as u32;
+    let [marginal, bad] = [share(mix[1]), share(mix[2])];
+    [size - marginal - bad, marginal, bad]
 }
 
 /// A complete sample whose counts at each stage end are at or next to the

@@ -96,7 +96,7 @@ impl Cases {
     }
 
     /// A random plan of 2 to 7 stages, one of them marked at least.
-    fn marked_plan(&mut self, round: usize, least: u32, most: u32) -> Vec<u32> {
+    pub fn marked_plan(&mut self, round: usize, least: u32, most: u32) -> Vec<u32> {
         let k = 2 + round % 6;
         let marked = 1 + self.random.index(k - 1);
         let units = self.random.between(least.max(k as u32), most);

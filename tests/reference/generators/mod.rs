@@ -1,15 +1,16 @@
 //! Inputs for the calls, the same at each run.
 //!
 //! - Hand-written: hand_written, plan_edges, known_lots, published; with marked
-//!   stages marked_plans, marked_edges.
+//!   stages marked_plans, marked_edges; for lots of known size sized_lots.
 //! - Random: random, draw.
-//! - Made of these: plan_cases and marked_cases; sheet_cases, sheet_damage and
-//!   marked_sheets, by sheet_script; full_sheets; lots_script.
+//! - Made of these: plan_cases, marked_cases and lot_cases; sheet_cases, sheet_damage
+//!   and marked_sheets, by sheet_script; full_sheets; lots_script.
 
 pub mod draw;
 pub mod full_sheets;
 pub mod hand_written;
 pub mod known_lots;
+pub mod lot_cases;
 pub mod lots_script;
 pub mod marked_cases;
 pub mod marked_edges;
@@ -22,3 +23,4 @@ pub mod random;
 pub mod sheet_cases;
 pub mod sheet_damage;
 pub mod sheet_script;
+pub mod sized_lots;

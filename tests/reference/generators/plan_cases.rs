@@ -1,5 +1,6 @@
 //! The seeded cases on plans: hand-written edges, then random plans with their lists and
-//! chances. marked_cases.rs has those with marked stages.
+//! chances. marked_cases.rs has those with marked stages, lot_cases.rs those on lots of
+//! known size.
 
 use super::hand_written::{runs, A, B, LARGEST, ONE, SEVEN, THREE, TWO, UNIT, WEIGHTS, WRAPS};
 use super::known_lots::{CHANCES, KNOWN, NEAR_A, NEAR_B};
@@ -9,6 +10,7 @@ use super::{draw, published};
 use crate::lines::fields;
 use crate::model::chance::{self, needed, Weights};
 use crate::model::earliest::{by_table, Table};
+use crate::model::lot_chance::Lot;
 use crate::model::plan::Plan;
 use std::collections::HashSet;
 
@@ -32,6 +34,7 @@ pub fn all() -> Vec<String> {
     cases.random_chances();
     cases.long_lists();
     cases.marked_plans();
+    cases.sized_lots();
     let mut seen = HashSet::new();
     cases.lines.retain(|line| seen.insert(line.clone()));
     cases.lines
@@ -81,6 +84,11 @@ impl Cases {
     pub fn chance_and_chart(&mut self, weights: Weights, scratch: u32, words: &[u32]) {
         self.chance(weights, scratch, words);
         self.chart(weights, scratch, words);
+    }
+
+    pub fn lot_chance(&mut self, lot: Lot, scratch: u32, words: &[u32]) {
+        let taken = [&lot[..], &[scratch], words].concat();
+        self.lines.push(format!("l{}", fields(&taken)));
     }
 
     fn known_lots(&mut self) {

@@ -16,13 +16,19 @@ pub struct Row {
 impl Row {
     /// Whether low and high are both near enough to what is printed.
     pub fn agrees(&self, bounds: Bounds) -> bool {
-        let printed = 2 * i128::from(self.printed) * i128::from(UNITS);
-        let most = i128::from(self.halves) * i128::from(UNITS);
-        bounds.iter().all(|&bound| {
-            let found = 2 * i128::from(bound) * i128::from(self.scale);
-            (found - printed).abs() <= most
-        })
+        agree(bounds, self.printed, self.scale, self.halves)
     }
+}
+
+/// Whether low and high are both within so many halves of 1 / `scale` of what is
+/// printed as a whole number of 1 / `scale`.
+pub fn agree(bounds: Bounds, printed: u32, scale: u32, halves: u32) -> bool {
+    let printed = 2 * i128::from(printed) * i128::from(UNITS);
+    let most = i128::from(halves) * i128::from(UNITS);
+    bounds.iter().all(|&bound| {
+        let found = 2 * i128::from(bound) * i128::from(scale);
+        (found - printed).abs() <= most
+    })
 }
 
 pub fn rows() -> Vec<Row> {
