@@ -1,4 +1,5 @@
-// Cases on the chance of acceptance: three weights, the number of words of scratch, and the plan.
+// Cases on the chance of acceptance: three weights, or the numbers of units of a lot by class, the number of words of
+// scratch, and the plan.
 use crate::print::bad_line;
 use crate::print::pair;
 use cases::print;
@@ -27,9 +28,26 @@ fn chart(words: &[u32], scratch: &mut [u64])
     }
 }
 
-// `c W0 W1 W2 N P1 P2 ..`: low and high. With `f`, the chart. No word of the scratch is 0 before the
-// call, since no call may count on that.
-pub fn answer(text: &[u8], floats: bool) {
+// Low and high of a lot of known size.
+fn lot(words: &[u32], scratch: &mut [u64])
+    requires { ⌜ 4 ≤ length (now words) ⌝ }
+{
+    match chance::lot_chance(&words[4..], words[0], words[1], words[2], scratch) {
+        BoundsAnswer::Pair(bounds) => pair(bounds.low, bounds.high),
+        BoundsAnswer::Refused(number) => print::refusal(number as u64),
+    }
+}
+
+// Which call a case is about.
+pub enum Call {
+    Chance,
+    Chart,
+    Lot,
+}
+
+// `c W0 W1 W2 N P1 P2 ..`: low and high. With `f`, the chart. `l GOOD MARGINAL BAD N P1 P2 ..`: low and high of a
+// lot. No word of the scratch is 0 before the call, since no call may count on that.
+pub fn answer(text: &[u8], call: Call) {
     let mut list = [0u32; 128];
     let n = cases::words(text, 1, &mut list);
     if n < 4 {
@@ -47,9 +65,9 @@ pub fn answer(text: &[u8], floats: bool) {
     }
     let length = needed as usize;
     let mut scratch = [u64::MAX; 7200];
-    if floats {
-        chart(&list[0..n], &mut scratch[0..length]);
-    } else {
-        bounds(&list[0..n], &mut scratch[0..length]);
+    match call {
+        Call::Chance => bounds(&list[0..n], &mut scratch[0..length]),
+        Call::Chart => chart(&list[0..n], &mut scratch[0..length]),
+        Call::Lot => lot(&list[0..n], &mut scratch[0..length]),
     }
 }

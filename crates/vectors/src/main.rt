@@ -5,6 +5,7 @@ mod lists;
 mod plans;
 mod print;
 
+use chances::Call;
 use print::bad_line;
 
 fn answer_case(line: &[u8]) {
@@ -15,8 +16,9 @@ fn answer_case(line: &[u8]) {
     match line[0] {
         b'a' => plans::admission(line),
         b'j' => lists::judged(line),
-        b'c' => chances::answer(line, false),
-        b'f' => chances::answer(line, true),
+        b'c' => chances::answer(line, Call::Chance),
+        b'f' => chances::answer(line, Call::Chart),
+        b'l' => chances::answer(line, Call::Lot),
         _ => bad_line(),
     }
 }
