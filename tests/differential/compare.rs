@@ -2,8 +2,9 @@
 
 use crate::library::{self, Answer, Lent, PATTERN, PATTERN_64};
 use reference::model::chance::{self, Bounds, Weights};
+use reference::model::lot_chance::Lot;
 use reference::model::plan::Plan;
-use reference::model::plan_calls::{ChanceCall, PlanCalls};
+use reference::model::plan_calls::{ChanceCall, LotChanceCall, PlanCalls};
 use reference::model::sheet::Sheet;
 use reference::model::sheet_call::SheetCall;
 use reference::model::Reply;
@@ -12,8 +13,8 @@ use std::collections::BTreeMap;
 /// An error is a difference.
 pub type Compared = Result<(), String>;
 
-/// Chance or chart by the library.
-type Call = fn(&[u32], Weights, &mut Lent<u64>) -> Answer;
+/// A chance, chart or chance of a lot by the library, with a number for each class.
+type Call = fn(&[u32], [u32; 3], &mut Lent<u64>) -> Answer;
 
 #[derive(Default)]
 pub struct Comparer {
@@ -66,19 +67,44 @@ impl Comparer {
             ("chart", library::chart, chance::chart),
         ];
         for (function, call, values) in chances {
-            let words: Vec<u64> = (0..scratch as u64).map(|i| PATTERN_64 ^ i).collect();
-            let mut lent = Lent::new(&words, PATTERN_64);
-            let answer = call(plan, weights, &mut lent);
-            let what = || format!("{function} {plan:?} {weights:?}, scratch {scratch}");
-            let reply = bounds.map(|bounds| values(bounds).to_vec());
-            self.same(function, &answer, reply, what)?;
-            let free = bounds.map_or(0, |_| needed(plan));
-            if !lent.kept_beyond(free) {
-                let what = what();
-                return Err(format!("{what}: scratch words beyond {free} were written"));
-            }
+            let reply = bounds.map(values);
+            self.with_scratch(function, call, plan, weights, scratch, reply)?;
         }
         Ok(())
+    }
+
+    /// The chance of a lot, with a scratch of so many words.
+    pub fn lot_chance(&mut self, plan: &[u32], lot: Lot, scratch: usize) -> Compared {
+        let bounds = self.calls.lot_chance(&LotChanceCall {
+            lot,
+            scratch: scratch as u32,
+            words: plan.to_vec(),
+        });
+        let call = library::lot_chance;
+        self.with_scratch("lot_chance", call, plan, lot, scratch, bounds)
+    }
+
+    /// Only a granted call may write to the scratch, and only the words that it needs.
+    fn with_scratch(
+        &mut self,
+        function: &'static str,
+        call: Call,
+        plan: &[u32],
+        numbers: [u32; 3],
+        scratch: usize,
+        reply: Reply<Bounds>,
+    ) -> Compared {
+        let words: Vec<u64> = (0..scratch as u64).map(|i| PATTERN_64 ^ i).collect();
+        let mut lent = Lent::new(&words, PATTERN_64);
+        let answer = call(plan, numbers, &mut lent);
+        let what = || format!("{function} {plan:?} {numbers:?}, scratch {scratch}");
+        self.same(function, &answer, reply.map(Vec::from), what)?;
+        let free = reply.map_or(0, |_| needed(plan));
+        if lent.kept_beyond(free) {
+            return Ok(());
+        }
+        let what = what();
+        Err(format!("{what}: scratch words beyond {free} were written"))
     }
 
     fn same(

@@ -3,6 +3,7 @@
 //! declarations of bindings/rust are run by its example.
 
 use reference::model::chance::Weights;
+use reference::model::lot_chance::Lot;
 use reference::model::sheet_call::SheetCall;
 
 extern "C" {
@@ -34,6 +35,16 @@ extern "C" {
         scratch: *mut u64,
         n: usize,
         out: *mut f64,
+    ) -> u32;
+    fn haq_lot_chance(
+        plan: *const u32,
+        plan_n: usize,
+        good: u32,
+        marginal: u32,
+        bad: u32,
+        scratch: *mut u64,
+        n: usize,
+        out: *mut u64,
     ) -> u32;
 }
 
@@ -165,5 +176,16 @@ pub fn chart(plan: &[u32], [w0, w1, w2]: Weights, scratch: &mut Lent<u64>) -> An
         haq_chart(words, k, w0, w1, w2, lent, n, out.cast())
     });
     assert!(plan.kept(), "chart wrote to its plan");
+    answer
+}
+
+pub fn lot_chance(plan: &[u32], [good, marginal, bad]: Lot, scratch: &mut Lent<u64>) -> Answer {
+    let mut plan = Lent::new(plan, PATTERN);
+    let (words, k, n) = (plan.pointer(), plan.len(), scratch.len());
+    let lent = scratch.pointer();
+    let answer = with_long_words(2, |out| unsafe {
+        haq_lot_chance(words, k, good, marginal, bad, lent, n, out)
+    });
+    assert!(plan.kept(), "lot_chance wrote to its plan");
     answer
 }

@@ -5,6 +5,7 @@
 
 mod compare;
 mod library;
+mod lot_chances;
 mod plans;
 mod sheets;
 
@@ -14,7 +15,7 @@ use std::time::Instant;
 fn main() -> ExitCode {
     let start = Instant::now();
     let mut comparer = compare::Comparer::default();
-    let parts = [plans::all, sheets::all];
+    let parts = [plans::all, lot_chances::all, sheets::all];
     let done = parts.into_iter().try_for_each(|part| part(&mut comparer));
     comparer.print();
     println!("{:.1} seconds", start.elapsed().as_secs_f64());

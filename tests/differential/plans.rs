@@ -1,4 +1,5 @@
-//! Plans, lists and weights: judge, chance, chart, and fresh with each plan.
+//! Plans, lists and weights: judge, chance, chart, and fresh with each plan. Words that
+//! are no plan are also given with a lot.
 
 use crate::compare::{needed, Compared, Comparer};
 use crate::library::PATTERN;
@@ -50,6 +51,9 @@ fn stored_cases(comparer: &mut Comparer) -> Compared {
             Case::Chance(call) => {
                 comparer.chance(&call.words, call.weights, call.scratch as usize)?
             }
+            Case::LotChance(call) => {
+                comparer.lot_chance(&call.words, call.lot, call.scratch as usize)?
+            }
             // Each chart is compared with its chance, and most have a line of both.
             Case::Chart(_) => {}
         }
@@ -70,6 +74,9 @@ fn plan(comparer: &mut Comparer, words: &[u32]) -> Compared {
     if Plan::admitted(words).is_none() {
         comparer.chance(words, [1, 1, 1], MOST_SCRATCH as usize)?;
         comparer.chance(words, [0, 0, 0], 0)?;
+        comparer.lot_chance(words, [800, 100, 100], MOST_SCRATCH as usize)?;
+        comparer.lot_chance(words, [0, 0, 0], 0)?;
+        comparer.lot_chance(words, [u32::MAX, 1, 1_000], 1)?;
     }
     Ok(())
 }
@@ -238,7 +245,7 @@ fn marked_long_lists(comparer: &mut Comparer, random: &mut Random) -> Compared {
 }
 
 /// A plan of 2 to 7 stages, each k in turn, with at least one marked.
-fn marked_plan(random: &mut Random, round: usize, [least, most]: [u32; 2]) -> Vec<u32> {
+pub fn marked_plan(random: &mut Random, round: usize, [least, most]: [u32; 2]) -> Vec<u32> {
     let k = 2 + round % 6;
     let marked = 1 + random.index(k - 1);
     let units = random.between(least.max(k as u32), most);
