@@ -3,7 +3,8 @@
  * `rt staticlib export` proves and makes.
  *
  * Each function returns 0 if the call is granted, else the number of its
- * refusal; where several apply, the lowest. A refused call writes nothing.
+ * refusal; where several apply, the first of enum haq_refusal. A refused call
+ * writes nothing.
  *
  * A pointer is followed by the number of its elements, which may be any number;
  * an array of an out parameter has the length in brackets. A pointer is aligned
@@ -21,8 +22,9 @@
 extern "C" {
 #endif
 
-/* The refusals; haq_refusal_text gives their sentences. In quotes the word of
-   document 01 where it is another than the name. */
+/* The refusals in their order of precedence, in which 17 stands before 14;
+   haq_refusal_text gives their sentences. In quotes the word of documents 01 and
+   02 where it is another than the name. */
 enum haq_refusal {
     HAQ_GRANTED = 0,
     HAQ_SHEET_SIZE = 1,      /* the sheet has fewer than 48 words or more than 65,536 */
@@ -38,6 +40,8 @@ enum haq_refusal {
     HAQ_FULL = 11,           /* no record is free or unused */
     HAQ_TALLY_FULL = 12,     /* 4,000,000 lots are closed and the totals have no room for more */
     HAQ_WEIGHTS = 13,        /* the weights add to 0 or to more than 1,000,000 ("proportions") */
+    HAQ_LOT_SIZE = 17,       /* the lot has fewer units than the sample or more than 1,000,000
+                                ("lot") */
     HAQ_SCRATCH_SHORT = 14,  /* the scratch is too short for the plan ("bench short") */
     HAQ_SEVERAL_STAGES = 15, /* the plan has several stages */
     HAQ_LINE = 16            /* the line is not a command; only the program lots gives it */
@@ -60,6 +64,7 @@ static inline const char *haq_refusal_text(uint32_t number) {
     case HAQ_FULL: return "no record is free or unused";
     case HAQ_TALLY_FULL: return "4,000,000 lots are closed and the totals have no room for more";
     case HAQ_WEIGHTS: return "the weights add to 0 or to more than 1,000,000";
+    case HAQ_LOT_SIZE: return "the lot has fewer units than the sample or more than 1,000,000";
     case HAQ_SCRATCH_SHORT: return "the scratch is too short for the plan";
     case HAQ_SEVERAL_STAGES: return "the plan has several stages";
     case HAQ_LINE: return "the line is not a command";
@@ -126,6 +131,11 @@ uint32_t haq_chance(const uint32_t *plan, size_t plan_n, uint32_t w0, uint32_t w
 /* As haq_chance, low and high divided by 2^40 exactly. */
 uint32_t haq_chart(const uint32_t *plan, size_t plan_n, uint32_t w0, uint32_t w1, uint32_t w2,
                    uint64_t *scratch, size_t n, double out[2]);
+
+/* As haq_chance, where the sample is drawn without replacement from a lot of so
+   many good, marginal and bad units. Refusals 2, 17, 14. */
+uint32_t haq_lot_chance(const uint32_t *plan, size_t plan_n, uint32_t good, uint32_t marginal,
+                        uint32_t bad, uint64_t *scratch, size_t n, uint64_t out[2]);
 
 #ifdef __cplusplus
 }

@@ -1,4 +1,4 @@
-/* One lot from opening to closing, then a list and a chance. Its output is bindings/expected. */
+/* One lot from opening to closing, then a list and chances. Its output is bindings/expected. */
 #include <haqothwe.h>
 #include <inttypes.h>
 #include <stdio.h>
@@ -58,7 +58,7 @@ static void judge(const uint8_t *list, size_t n) {
     printf(" event %" PRIu32 "\n", out[8]);
 }
 
-static void chance(void) {
+static void chances(void) {
     uint64_t scratch[HAQ_SCRATCH_MOST];
     uint64_t bounds[2];
     double chart[2];
@@ -67,6 +67,9 @@ static void chance(void) {
     if (haq_chart(PLAN, 5, 90, 7, 3, scratch, HAQ_SCRATCH_MOST, chart) == HAQ_GRANTED)
         printf("chart 90 7 3: %.15f to %.15f\n", chart[0], chart[1]);
     done("chance 0 0 0", haq_chance(PLAN, 5, 0, 0, 0, scratch, HAQ_SCRATCH_MOST, bounds));
+    if (haq_lot_chance(PLAN, 5, 16, 2, 2, scratch, HAQ_SCRATCH_MOST, bounds) == HAQ_GRANTED)
+        printf("lot chance 16 2 2: %" PRIu64 " to %" PRIu64 "\n", bounds[0], bounds[1]);
+    done("lot chance 4 0 0", haq_lot_chance(PLAN, 5, 4, 0, 0, scratch, HAQ_SCRATCH_MOST, bounds));
 }
 
 int main(void) {
@@ -76,6 +79,6 @@ int main(void) {
     judge(list, 5);
     judge(list, 0);
     judge(list, 6);
-    chance();
+    chances();
     return 0;
 }

@@ -1,6 +1,6 @@
-"""One lot from opening to closing, then a list and a chance. Its output is bindings/expected."""
+"""One lot from opening to closing, then a list and chances. Its output is bindings/expected."""
 
-from haqothwe import Refused, Sheet, chance, chart, judge
+from haqothwe import Refused, Sheet, chance, chart, judge, lot_chance
 
 PLAN = [5, 2, 3, 1, 2]
 STATES = ["undecided", "accepted", "rejected"]
@@ -60,6 +60,9 @@ def main():
     low, high = chart(PLAN, [90, 7, 3])
     print(f"chart 90 7 3: {low:.15f} to {high:.15f}")
     done("chance 0 0 0", chance, PLAN, [0, 0, 0])
+    low, high = lot_chance(PLAN, [16, 2, 2])
+    print(f"lot chance 16 2 2: {low} to {high}")
+    done("lot chance 4 0 0", lot_chance, PLAN, [4, 0, 0])
 
 
 main()

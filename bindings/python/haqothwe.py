@@ -51,6 +51,7 @@ _TABLE = [
     (11, "Full", "no record is free or unused"),
     (12, "TallyFull", "4,000,000 lots are closed and the totals have no room for more"),
     (13, "Weights", "the weights add to 0 or to more than 1,000,000"),
+    (17, "LotSize", "the lot has fewer units than the sample or more than 1,000,000"),
     (14, "ScratchShort", "the scratch is too short for the plan"),
     (15, "SeveralStages", "the plan has several stages"),
     (16, "Line", "the line is not a command"),
@@ -94,6 +95,7 @@ _estimate = _function("haq_estimate", *_sheet, _u32, ctypes.POINTER(_u64))
 _judge = _function("haq_judge", *_sheet, *_list, ctypes.POINTER(_u32))
 _chance = _function("haq_chance", *_bounds, ctypes.POINTER(_u64))
 _chart = _function("haq_chart", *_bounds, ctypes.POINTER(_f64))
+_lot_chance = _function("haq_lot_chance", *_bounds, ctypes.POINTER(_u64))
 
 
 def _word(number):
@@ -167,11 +169,12 @@ def judge(plan, classes):
     return Judgement(*stops, out[8])
 
 
-def _pair(function, kind, plan, weights, scratch):
+def _pair(function, kind, plan, classes, scratch):
+    """classes: a number for each class, weights or units."""
     out = (kind * 2)()
     words = (_u64 * scratch)()
-    w0, w1, w2 = map(_word, weights)
-    _granted(function(_words(plan), len(plan), w0, w1, w2, words, scratch, out))
+    good, marginal, bad = map(_word, classes)
+    _granted(function(_words(plan), len(plan), good, marginal, bad, words, scratch, out))
     return tuple(out)
 
 
@@ -183,3 +186,8 @@ def chance(plan, weights, scratch=SCRATCH_MOST):
 def chart(plan, weights, scratch=SCRATCH_MOST):
     """Low and high as floats."""
     return _pair(_chart, _f64, plan, weights, scratch)
+
+
+def lot_chance(plan, lot, scratch=SCRATCH_MOST):
+    """Low and high in units of 2^-40 for a lot, given its good, marginal and bad units."""
+    return _pair(_lot_chance, _u64, plan, lot, scratch)

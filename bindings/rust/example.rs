@@ -1,9 +1,9 @@
-//! One lot from opening to closing, then a list and a chance. Its output is
+//! One lot from opening to closing, then a list and chances. Its output is
 //! bindings/expected.
 
 mod haqothwe;
 
-use haqothwe::{chance, chart, judge, Reply, Sheet, Stop, SCRATCH_MOST};
+use haqothwe::{chance, chart, judge, lot_chance, Reply, Sheet, Stop, SCRATCH_MOST};
 use haqothwe::{ACCEPTED, REJECTED, UNDECIDED};
 
 const PLAN: &[u32] = &[5, 2, 3, 1, 2];
@@ -74,6 +74,9 @@ fn chances() -> Reply<()> {
     let [low, high] = chart(PLAN, [90, 7, 3], scratch)?;
     println!("chart 90 7 3: {low:.15} to {high:.15}");
     done("chance 0 0 0", chance(PLAN, [0, 0, 0], scratch));
+    let [low, high] = lot_chance(PLAN, [16, 2, 2], scratch)?;
+    println!("lot chance 16 2 2: {low} to {high}");
+    done("lot chance 4 0 0", lot_chance(PLAN, [4, 0, 0], scratch));
     Ok(())
 }
 

@@ -64,6 +64,7 @@ refusals! {
     11 Full "no record is free or unused"
     12 TallyFull "4,000,000 lots are closed and the totals have no room for more"
     13 Weights "the weights add to 0 or to more than 1,000,000"
+    17 LotSize "the lot has fewer units than the sample or more than 1,000,000"
     14 ScratchShort "the scratch is too short for the plan"
     15 SeveralStages "the plan has several stages"
     16 Line "the line is not a command"
@@ -156,6 +157,10 @@ extern "C" {
         plan: *const u32, plan_n: usize, w0: u32, w1: u32, w2: u32,
         scratch: *mut u64, n: usize, out: &mut [f64; 2],
     ) -> u32;
+    fn haq_lot_chance(
+        plan: *const u32, plan_n: usize, good: u32, marginal: u32, bad: u32,
+        scratch: *mut u64, n: usize, out: &mut [u64; 2],
+    ) -> u32;
 }
 
 fn reply<T: Default>(call: impl FnOnce(&mut T) -> u32) -> Reply<T> {
@@ -220,4 +225,12 @@ pub fn chance(plan: &[u32], [w0, w1, w2]: [u32; 3], scratch: &mut [u64]) -> Repl
 pub fn chart(plan: &[u32], [w0, w1, w2]: [u32; 3], scratch: &mut [u64]) -> Reply<[f64; 2]> {
     let (words, k, n) = (plan.as_ptr(), plan.len(), scratch.len());
     reply(|out| unsafe { haq_chart(words, k, w0, w1, w2, scratch.as_mut_ptr(), n, out) })
+}
+
+/// Low and high in units of 2^-40 for a lot, given its good, marginal and bad units.
+pub fn lot_chance(plan: &[u32], lot: [u32; 3], scratch: &mut [u64]) -> Reply<[u64; 2]> {
+    let (words, k, n) = (plan.as_ptr(), plan.len(), scratch.len());
+    let [good, marginal, bad] = lot;
+    let scratch = scratch.as_mut_ptr();
+    reply(|out| unsafe { haq_lot_chance(words, k, good, marginal, bad, scratch, n, out) })
 }
