@@ -1,5 +1,5 @@
 """bin/oc: the operating characteristic of a plan, which is its chance of acceptance against the
-share of bad units, as a table, as CSV and as a drawing."""
+share of bad units, or the bad units of a lot, as a table, as CSV and as a drawing."""
 
 import argparse
 import csv
@@ -12,7 +12,8 @@ from itertools import pairwise
 from pathlib import Path
 
 import oc_svg
-from oc_shares import WHOLE, percent, round_step, rounds, shares, weights
+from oc_lot import Lot, lot_size, units
+from oc_shares import Shares, round_step, rounds, shares
 from plan_rules import broken_rules
 
 ROOT = Path(__file__).resolve().parents[2]
@@ -23,14 +24,16 @@ UNITS = 2**40
 DESCRIPTION = """\
 Prints the chance that a plan accepts a lot, for shares of bad and of marginal units: the proved
 low and high, low rounded down and high rounded up. A plan has five numbers a stage:
-n a1 r1 a2 r2."""
+n a1 r1 a2 r2. With --lot also the chance for a lot of so many units, from which the sample is
+drawn without replacement; bad and marginal units are then whole numbers of the lot's units."""
 
 EXAMPLES = """\
 examples:
   bin/oc 40 7 8 2 3
   bin/oc --marginal 5,10,15,20 --bad 2,4,6,8 40 7 8 2 3
   bin/oc --csv 80 5 9 1 4 80 12 13 4 5
-  bin/oc --svg target/oc.svg 80 5 9 1 4 80 12 13 4 5"""
+  bin/oc --svg target/oc.svg 80 5 9 1 4 80 12 13 4 5
+  bin/oc --lot 300 --marginal 0,15 --bad 0,3,6,9,12 40 7 8 2 3"""
 
 
 class Failure(Exception):
@@ -64,14 +67,18 @@ def digits(text):
 
 
 def parsed(arguments):
+    of_lot = any(it.split("=")[0] == "--lot" for it in arguments)
+    amounts = option_type(units if of_lot else shares)
     parser = argparse.ArgumentParser(
         prog="bin/oc", description=DESCRIPTION, epilog=EXAMPLES, allow_abbrev=False,
         formatter_class=argparse.RawDescriptionHelpFormatter)
     add = parser.add_argument
     add("plan", nargs="*", type=option_type(word), metavar="NUMBER", help="the plan")
-    add("--marginal", type=option_type(shares), metavar="PERCENT,..",
+    add("--lot", type=option_type(lot_size), metavar="N",
+        help="size of the lot, 1 to 1000000; --marginal and --bad are then numbers of units")
+    add("--marginal", type=amounts, metavar="PERCENT,..",
         help="shares of marginal units; else three that suit the plan")
-    add("--bad", type=option_type(shares), metavar="PERCENT,..",
+    add("--bad", type=amounts, metavar="PERCENT,..",
         help="shares of bad units; else from 0 to where the chance is below 1 %%")
     add("--digits", type=option_type(digits), default=6, metavar="N",
         help="digits after the point; else 6")
@@ -95,38 +102,39 @@ def library():
     return haqothwe
 
 
-def default_marginals(plan):
+def default_marginals(plan, whole):
     """0 and two more, near the share of nongood units at which the last stage turns."""
-    units, a1 = sum(plan[::5]), plan[-4]
-    step = min(round_step((2 * a1 + 1) * WHOLE // (6 * units), 1), WHOLE // 5)
-    return [0, step, 2 * step]
+    sample, a1 = sum(plan[::5]), plan[-4]
+    step = min(round_step((2 * a1 + 1) * whole // (6 * sample), 1), whole // 5)
+    return [0, max(step, 1), 2 * max(step, 1)]
 
 
-def default_bads(chance):
+def default_bads(bounds, whole):
     """From 0 to where the chance without marginal units, which never rises, is below 1 %."""
-    low, high = 0, WHOLE
+    low, high = 0, whole
     while high - low > high // 50 + 1:
         middle = (low + high) // 2
-        if 100 * chance(0, middle)[1] < UNITS:
+        if 100 * bounds(0, middle)[0][1] < UNITS:
             high = middle
         else:
             low = middle
-    return rounds(high, 20)
+    return sorted({min(bad, whole) for bad in rounds(high, 20)})
 
 
-def chosen_shares(options, chance):
-    """The shares of marginal and of bad units. A default has none that fits no other share."""
-    marginals = options.marginal or default_marginals(options.plan)
-    bads = options.bad or default_bads(chance)
+def chosen(options, scale, bounds):
+    """The marginal and the bad units. A default has none that fits no other number."""
+    given = [amounts[-1] if amounts else 0 for amounts in (options.marginal, options.bad)]
+    if sum(given) > scale.whole:
+        marginal, bad, whole = map(scale.amount, (*given, scale.whole))
+        raise Failure(f"{marginal} marginal and {bad} bad units add to over {whole}")
+    marginals = options.marginal or default_marginals(options.plan, scale.whole)
+    bads = options.bad or default_bads(bounds, scale.whole)
     if not options.marginal:
-        marginals = [marginal for marginal in marginals if marginal + bads[0] <= WHOLE]
+        marginals = [marginal for marginal in marginals if marginal + bads[0] <= scale.whole]
     if not options.bad:
-        bads = [bad for bad in bads if bad + marginals[0] <= WHOLE]
-    if options.marginal and options.bad and marginals[-1] + bads[-1] > WHOLE:
-        raise Failure(f"{percent(marginals[-1])} % marginal and {percent(bads[-1])} % bad units "
-                      "add to over 100 %")
+        bads = [bad for bad in bads if bad + marginals[0] <= scale.whole]
     if options.svg and (len(bads) < 2 or len(marginals) > len(oc_svg.STROKES)):
-        raise Failure("a drawing needs two shares of bad units at least, and has at most "
+        raise Failure(f"a drawing needs two {scale.kind} of bad units at least, and has at most "
                       f"{len(oc_svg.STROKES)} curves")
     return marginals, bads
 
@@ -139,13 +147,13 @@ def finer(bads):
     return sorted(between | {bads[-1]})
 
 
-def asked(chance, pairs):
-    """Low and high of pairs of shares. A terminal is told of them, as large plans take seconds."""
+def asked(bounds, pairs):
+    """Bounds of pairs of units. A terminal is told of them, as large plans take seconds."""
     found = {}
     for pair in pairs:
         if sys.stderr.isatty():
             print(f"\r{len(found)} of {len(pairs)} chances ", end="", file=sys.stderr, flush=True)
-        found[pair] = chance(*pair)
+        found[pair] = bounds(*pair)
     if sys.stderr.isatty():
         print("\r" + " " * 30, end="\r", file=sys.stderr, flush=True)
     return found
@@ -158,69 +166,90 @@ def outward(bounds, digits):
     return [f"{it // 10**digits}.{it % 10**digits:0{digits}}" for it in rounded]
 
 
-def table(options, marginals, bads, found):
-    """A row for each share of bad units; "-" where the shares would add to over 100 %."""
-    size = options.digits + 2
-    labels = [f"marginal {percent(marginal)} %" for marginal in marginals]
-    width = max(2 * size + 2, *map(len, labels))
+def decimals(bounds, digits):
+    return [decimal for pair in bounds for decimal in outward(pair, digits)]
 
-    def row(first, pairs):
-        cells = "".join(f"  {pair:>{width}}" for pair in pairs)
+
+def table(options, scale, marginals, bads, found):
+    """A row for each number of bad units; "-" where the units would add to more than all."""
+    size = max(options.digits + 2, scale.least_width)
+    labels = [f"marginal {scale.amount(marginal)}" for marginal in marginals]
+
+    def line(cells):
+        return "  ".join(f"{it:>{size}}" for it in cells)
+
+    columns = line(scale.columns)
+    width = max(len(scale.columns) * (size + 2) - 2, *map(len, labels))
+
+    def row(first, groups):
+        cells = "".join(f"  {group:>{width}}" for group in groups)
         return f"{first:>7}{cells}"
 
     def cell(marginal, bad):
-        pair = ["-", "-"]
         if (marginal, bad) in found:
-            pair = outward(found[marginal, bad], options.digits)
-        return "  ".join(f"{it:>{size}}" for it in pair)
+            return line(decimals(found[marginal, bad], options.digits))
+        return line("-" * len(scale.columns))
 
-    yield f"Chance of acceptance, plan {' '.join(map(str, options.plan))}"
-    yield ""
+    yield scale.title
+    yield scale.subtitle
     yield row("", labels)
-    yield row("bad %", [f"{'low':>{size}}  {'high':>{size}}"] * len(labels))
+    yield row(scale.bad_column, [columns] * len(labels))
     for bad in bads:
-        yield row(percent(bad), [cell(marginal, bad) for marginal in marginals])
+        yield row(scale.text(bad), [cell(marginal, bad) for marginal in marginals])
 
 
-def write_csv(options, marginals, bads, found):
+def write_csv(options, scale, marginals, bads, found):
     writer = csv.writer(sys.stdout, lineterminator="\n")
-    writer.writerow(["marginal_percent", "bad_percent", "low", "high"])
+    writer.writerow(scale.csv_columns)
     for pair in ((marginal, bad) for marginal in marginals for bad in bads):
         if pair in found:
-            writer.writerow([*map(percent, pair), *outward(found[pair], options.digits)])
+            writer.writerow([*map(scale.text, pair), *decimals(found[pair], options.digits)])
 
 
-def write_svg(options, arguments, marginals, drawn, found):
+def write_svg(options, arguments, scale, marginals, drawn, found):
     """Low and high are at most 1,000 units apart, which no drawing shows: their mean is drawn."""
-    curves = [(marginal, [(bad, sum(found[marginal, bad]) / (2 * UNITS))
-                          for bad in drawn if (marginal, bad) in found])
-              for marginal in marginals]
+    def points(bounds):
+        return [(bad, sum(pair) / (2 * UNITS)) for bad, pair in bounds]
+
+    curves = [oc_svg.Curve(
+        scale.amount(marginal),
+        points((bad, found[marginal, bad][0]) for bad in drawn if (marginal, bad) in found),
+        points(scale.beside(marginal, drawn))) for marginal in marginals]
     command = shlex.join(["bin/oc", *arguments])
     try:
-        Path(options.svg).write_text(oc_svg.drawing(options.plan, curves, command), "utf-8")
+        Path(options.svg).write_text(oc_svg.drawing(scale, curves, command), "utf-8")
     except OSError as error:
         raise Failure(f"{options.svg} cannot be written: {error.strerror}") from None
 
 
-def run(arguments):
-    options = parsed(arguments)
+def checked(options):
+    """Raises what is wrong with the plan and the lot."""
     if not options.plan:
         raise Failure("no plan is given; bin/oc --help says how")
     broken = broken_rules(options.plan)
     if broken:
         raise Failure("\n  ".join(["the plan is not admitted:", *broken]))
-    ask = library().chance
-    chance = cache(lambda marginal, bad: ask(options.plan, weights(marginal, bad)))
-    marginals, bads = chosen_shares(options, chance)
+    sample = sum(options.plan[::5])
+    if options.lot and options.lot < sample:
+        raise Failure(f"the lot has {options.lot} units, fewer than the sample, which has {sample}")
+
+
+def run(arguments):
+    options = parsed(arguments)
+    checked(options)
+    about = options.plan, library()
+    scale = Lot(*about, options.lot) if options.lot else Shares(*about)
+    bounds = cache(scale.bounds)
+    marginals, bads = chosen(options, scale, bounds)
     drawn = finer(bads) if options.svg else bads
     every = ((marginal, bad) for marginal in marginals for bad in drawn)
-    found = asked(chance, [pair for pair in every if sum(pair) <= WHOLE])
+    found = asked(bounds, [pair for pair in every if sum(pair) <= scale.whole])
     if options.svg:
-        write_svg(options, arguments, marginals, drawn, found)
+        write_svg(options, arguments, scale, marginals, drawn, found)
     if options.csv:
-        write_csv(options, marginals, bads, found)
+        write_csv(options, scale, marginals, bads, found)
     else:
-        print("\n".join(table(options, marginals, bads, found)))
+        print("\n".join(table(options, scale, marginals, bads, found)))
 
 
 def main(arguments):

@@ -24,8 +24,40 @@ def percent(share):
     return f"{share / 10_000:g}"
 
 
-def weights(marginal, bad):
-    return WHOLE - marginal - bad, marginal, bad
+class Shares:
+    """What bin/oc shows for a lot so large that drawing does not change its shares."""
+
+    whole = WHOLE
+    kind = "shares"
+    columns = ["low", "high"]
+    least_width = 0
+    csv_columns = ["marginal_percent", "bad_percent", "low", "high"]
+    bad_column = "bad %"
+    heading = "Operating characteristic"
+    axis = "Share of bad units (%)"
+
+    def __init__(self, plan, library):
+        self.plan = plan
+        self.library = library
+        self.title = f"Chance of acceptance, plan {' '.join(map(str, plan))}"
+        self.subtitle = ""
+        self.note = (f"Each line is the proved low and high: they are at most {sum(plan[::5])} / "
+                     "2^40 apart.")
+
+    def text(self, share):
+        return percent(share)
+
+    def amount(self, share):
+        return f"{percent(share)} %"
+
+    def bounds(self, marginal, bad):
+        """Pairs of low and high."""
+        weights = WHOLE - marginal - bad, marginal, bad
+        return [self.library.chance(self.plan, weights)]
+
+    def beside(self, marginal, bads):
+        """No curve is drawn beside this one."""
+        return []
 
 
 def round_step(span, most):

@@ -9,17 +9,14 @@ import shutil
 import unittest
 import xml.etree.ElementTree as xml
 from collections import Counter
-from contextlib import redirect_stderr, redirect_stdout
 from fractions import Fraction
 from itertools import product
 from math import comb
 
 import haqothwe
-import oc
 from common import ROOT, WORK, run
-
-SINGLE = "40 7 8 2 3".split()
-DOUBLE = "80 5 9 1 4 80 12 13 4 5".split()
+from oc_common import (DOUBLE, MARK, MULTIPLE, SINGLE, SVG, drawn, expect_failures, printed,
+                       scale)
 
 # Table 5.1 of document 003 for the plan SINGLE: per cent bad, then Pa for 5, 10, 15 and 20 per
 # cent marginal. Its last digit is taken as right to one unit.
@@ -28,36 +25,6 @@ PUBLISHED = """\
 4 0.780695 0.688429 0.449754 0.207331
 6 0.561672 0.480158 0.293239 0.124068
 8 0.365494 0.304034 0.175054 0.068581"""
-
-# What a stage has as a1 and a2 where acceptance is not permitted (02, change 1).
-MARK = 2**32 - 1
-
-# The multiple plan of the standard tables beside the single plan 125, 3, 4: acceptance is not
-# permitted at the first of seven samples of 32 units. Both rows are alike.
-A = [MARK, 0, 1, 2, 3, 4, 6]
-R = [3, 3, 4, 5, 6, 6, 7]
-MULTIPLE = [str(number) for a, r in zip(A, R) for number in (32, a, r, a, r)]
-
-SVG = "{http://www.w3.org/2000/svg}"
-
-
-def called(*arguments):
-    """Exit status, output and errors of bin/oc, in this process, which is faster."""
-    out, errors = io.StringIO(), io.StringIO()
-    with redirect_stdout(out), redirect_stderr(errors):
-        try:
-            status = oc.main(arguments)
-        except SystemExit as end:
-            status = end.code
-    return status, out.getvalue(), errors.getvalue()
-
-
-def printed(*arguments):
-    """What bin/oc prints; it has nothing to say beside."""
-    status, out, errors = called(*arguments)
-    if status or errors:
-        raise AssertionError(errors)
-    return out
 
 
 def csv_rows(*arguments):
@@ -177,25 +144,10 @@ class Numbers(unittest.TestCase):
 
 
 class Drawing(unittest.TestCase):
-    def drawn(self, *arguments):
-        path = WORK / "oc.svg"
-        printed("--svg", str(path), *arguments)
-        return xml.parse(path).getroot()
-
-    def scale(self, root, axis):
-        """From a coordinate to what its axis shows, by the first and the last tick."""
-        ticks = [text for text in root.iter(f"{SVG}text") if text.get("class") == axis]
-        places = [float(tick.get(axis)) for tick in (ticks[0], ticks[-1])]
-        values = [float(tick.text) for tick in (ticks[0], ticks[-1])]
-        slope = (values[1] - values[0]) / (places[1] - places[0])
-        # The number of a tick of the y axis stands five lower than its line.
-        shift = 5 if axis == "y" else 0
-        return lambda place: values[0] + (place + shift - places[0]) * slope
-
     def test_points(self):
         """Each point is where its share and its chance are, to a twentieth of a unit."""
-        root = self.drawn("--marginal", "0,5,10", *DOUBLE)
-        across, down = self.scale(root, "x"), self.scale(root, "y")
+        root = drawn("--marginal", "0,5,10", *DOUBLE)
+        across, down = scale(root, "x"), scale(root, "y")
         curves = root.findall(f"{SVG}polyline")
         self.assertEqual(len(curves), 3)
         for curve, marginal in zip(curves, (0, 5, 10)):
@@ -208,7 +160,7 @@ class Drawing(unittest.TestCase):
                 self.assertAlmostEqual(down(float(y)), float(low + high) / 2, delta=0.05 / 340)
 
     def test_parts(self):
-        root = self.drawn("--bad", "0,5,20", "--marginal", "2.5,33.3333", *SINGLE)
+        root = drawn("--bad", "0,5,20", "--marginal", "2.5,33.3333", *SINGLE)
         texts = [text.text for text in root.iter(f"{SVG}text")]
         for text in ("Plan (n a1 r1 a2 r2): 40 7 8 2 3", "2.5 %", "33.3333 %", "Marginal units",
                      "Share of bad units (%)", "Chance of acceptance"):
@@ -219,16 +171,17 @@ class Drawing(unittest.TestCase):
             self.assertTrue(0 <= float(text.get("x")) <= width)
             self.assertTrue(0 <= float(text.get("y")) <= height)
 
-    def test_picture_of_the_documents(self):
-        """docs/oc.svg is what the command that it names draws."""
-        page = (ROOT / "docs" / "oc.svg").read_text(encoding="utf-8")
-        made_by = xml.fromstring(page).find(f"{SVG}desc").text
-        command, *arguments = shlex.split(made_by.removeprefix("Made by: "))
-        place = arguments.index("docs/oc.svg")
-        arguments[place] = str(WORK / "again.svg")
-        self.assertEqual(run(command, *arguments).returncode, 0)
-        again = (WORK / "again.svg").read_text(encoding="utf-8")
-        self.assertEqual(again.replace(arguments[place], "docs/oc.svg"), page)
+    def test_pictures_of_the_documents(self):
+        """Each is what the command that it names draws."""
+        for name in "docs/oc.svg", "docs/oc-lot.svg":
+            page = (ROOT / name).read_text(encoding="utf-8")
+            made_by = xml.fromstring(page).find(f"{SVG}desc").text
+            command, *arguments = shlex.split(made_by.removeprefix("Made by: "))
+            place = arguments.index(name)
+            arguments[place] = str(WORK / "again.svg")
+            self.assertEqual(run(command, *arguments).returncode, 0)
+            again = (WORK / "again.svg").read_text(encoding="utf-8")
+            self.assertEqual(again.replace(arguments[place], name), page)
 
 
 class Arguments(unittest.TestCase):
@@ -254,12 +207,7 @@ class Arguments(unittest.TestCase):
     ]
 
     def test_wrong(self):
-        for arguments, sentence in self.WRONG:
-            status, out, errors = called(*arguments.split())
-            self.assertEqual((status, out), (2, ""), arguments)
-            self.assertIn(sentence, errors)
-        done = run("bin/oc", *arguments.split())
-        self.assertEqual((done.returncode, done.stdout, done.stderr), (status, out, errors))
+        expect_failures(self, self.WRONG)
 
     def test_help_needs_no_library(self):
         nowhere = {**os.environ, "HAQOTHWE_LIBRARY": "/no/such/library.so"}
