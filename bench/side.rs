@@ -14,6 +14,12 @@ pub enum Work {
         weights: Weights,
         scratch: usize,
     },
+    LotChance {
+        plan: Vec<u32>,
+        /// Good, marginal and bad units.
+        lot: [u32; 3],
+        scratch: usize,
+    },
     Sheet {
         before: Rc<Vec<u32>>,
         call: SheetCall,

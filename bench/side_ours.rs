@@ -23,6 +23,10 @@ impl Side for Ours {
                 let scratch = &mut self.0.scratch[..*scratch];
                 returned(haqothwe::chance(plan, *weights, scratch))
             }
+            Work::LotChance { plan, lot, scratch } => {
+                let scratch = &mut self.0.scratch[..*scratch];
+                returned(haqothwe::lot_chance(plan, *lot, scratch))
+            }
             Work::Sheet { call, .. } => on_sheet(&mut Sheet(&mut self.0.words), call),
         }
     }

@@ -23,6 +23,10 @@ impl Side for Plain {
                 let scratch = &mut self.0.scratch[..*scratch];
                 answer(chance::chance(plan, *weights, scratch))
             }
+            Work::LotChance { plan, lot, scratch } => {
+                let scratch = &mut self.0.scratch[..*scratch];
+                answer(chance::lot_chance(plan, *lot, scratch))
+            }
             Work::Sheet { call, .. } => on_sheet(&mut self.0.words, call),
         }
     }

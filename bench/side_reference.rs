@@ -2,7 +2,7 @@
 //! the other sides do not.
 
 use crate::side::{answer, load, Answer, Side, Work};
-use reference::model::plan_calls::{ChanceCall, PlanCalls};
+use reference::model::plan_calls::{ChanceCall, LotChanceCall, PlanCalls};
 use reference::model::sheet::Sheet;
 
 #[derive(Default)]
@@ -31,6 +31,13 @@ impl Side for Reference {
                 scratch: *scratch as u32,
                 words: plan.clone(),
             })),
+            Work::LotChance { plan, lot, scratch } => {
+                answer(self.calls.lot_chance(&LotChanceCall {
+                    lot: *lot,
+                    scratch: *scratch as u32,
+                    words: plan.clone(),
+                }))
+            }
             Work::Sheet { call, .. } => match call.make(&mut self.sheet) {
                 Err(number) => (number, [0; 9]),
                 Ok(found) => {

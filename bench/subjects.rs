@@ -21,6 +21,7 @@ pub fn all() -> Vec<Subject> {
     let random = &mut Random::new(1_000);
     let mut all = lists(random);
     all.extend(plans().map(|plan| chance(&plan)));
+    all.extend(plans().map(|plan| lot_chance(&plan)));
     all.extend(short_lots(random));
     all.extend(other_sheets(random));
     all
@@ -73,6 +74,18 @@ fn chance((name, plan): &Named) -> Subject {
         work: Work::Chance {
             plan: plan.clone(),
             weights: [942_000, 3_000, 55_000],
+            scratch: MOST_SCRATCH as usize,
+        },
+    }
+}
+
+/// A lot with the shares of the weights above.
+fn lot_chance((name, plan): &Named) -> Subject {
+    Subject {
+        name: format!("lot chance, S 1,000, {name}"),
+        work: Work::LotChance {
+            plan: plan.clone(),
+            lot: [9_420, 30, 550],
             scratch: MOST_SCRATCH as usize,
         },
     }

@@ -3,6 +3,7 @@
 //! for clarity, so that a ratio to its times would say little.
 
 pub mod chance;
+mod draw;
 pub mod judge;
 pub mod lots;
 mod plan;
