@@ -1,6 +1,7 @@
 """The usage of bin/lots and its manual, docs/lots.1, against the table and the program."""
 
 import os
+import re
 import unittest
 
 from common import ROOT, refusals, run
@@ -11,7 +12,7 @@ MANUAL = (ROOT / "docs" / "lots.1").read_text(encoding="ascii")
 COMMANDS = ["p N A1 R1 A2 R2 ..", "o LOT", "i LOT CLASS", "s LOT", "l LOT", "c LOT", "t"]
 
 # Refusals of calls that the program does not make, or not so that they are given.
-OF_THE_LIBRARY_ALONE = {1, 13, 14, 15}
+OF_THE_LIBRARY_ALONE = {1, 13, 17, 14, 15}
 
 
 def literal_blocks():
@@ -39,8 +40,9 @@ class Usage(unittest.TestCase):
 
 class Manual(unittest.TestCase):
     def test_refusals(self):
-        for number, name, text in refusals():
-            self.assertIn(f"\n.It {number}\n{name}: {text}\n", MANUAL)
+        """All rows of the table, in its order."""
+        found = re.findall(r"^\.It (\d+)\n([^:]+): (.*)$", MANUAL, re.MULTILINE)
+        self.assertEqual([(int(number), *words) for number, *words in found], refusals())
 
     def test_example(self):
         """The commands of the manual get its replies."""

@@ -9,8 +9,8 @@ from common import ROOT, built, built_rust, camel, refusals, run
 
 TABLE = refusals()
 
-# Numbers of no refusal: the first after the table, and the last.
-BEYOND = [TABLE[-1].number + 1, 2**32 - 1]
+# Numbers of no refusal: the first after the table's, and the last.
+BEYOND = [len(TABLE) + 1, 2**32 - 1]
 
 ONE_STAGE = [5, 2, 3, 1, 2]
 TWO_STAGES = [10, 0, 3, 0, 3, 1, 5, 6, 5, 6]
@@ -28,7 +28,9 @@ def asked(program, numbers):
 
 class Words(unittest.TestCase):
     def test_table(self):
-        self.assertEqual(sorted(row.number for row in TABLE), list(range(1, len(TABLE) + 1)))
+        """Each number once, in ascending order but for 17, which stands between 13 and 14."""
+        numbers = [row.number for row in TABLE]
+        self.assertEqual(numbers, [*range(1, 14), 17, *range(14, 17)])
 
     def test_readme(self):
         self.assertEqual(refusals("README.md", "Refusals"), TABLE)
@@ -47,10 +49,10 @@ class Words(unittest.TestCase):
         self.c_texts("g++", "-std=c++17", "-x", "c++")
 
     def test_header(self):
-        """Names, numbers and comments; a comment may say more than the sentence."""
+        """Names, numbers and comments in order; a comment may say more than the sentence."""
         header = (ROOT / "include" / "haqothwe.h").read_text(encoding="utf-8")
         enum = header.split("enum haq_refusal {", 1)[1].split("};", 1)[0]
-        found = re.findall(r"HAQ_(\w+) = (\d+),? */\* (.*) \*/", enum)
+        found = re.findall(r"HAQ_(\w+) = (\d+),? */\* (.*?) \*/", " ".join(enum.split()))
         self.assertEqual(len(found), len(TABLE))
         for row, (name, number, comment) in zip(TABLE, found):
             self.assertEqual(name, row.name.upper().replace(" ", "_"))
@@ -66,6 +68,13 @@ class Words(unittest.TestCase):
                      for number in BEYOND]
         self.assertEqual(lines, expected + ["refused 8: the lot is decided"])
 
+    def test_rust_order(self):
+        source = (ROOT / "bindings" / "rust" / "haqothwe.rs").read_text(encoding="utf-8")
+        table = source.split("\nrefusals! {\n", 1)[1].split("\n}\n", 1)[0]
+        found = re.findall(r'^ +(\d+) (\w+) "(.*)"$', table, re.MULTILINE)
+        expected = [(str(number), camel(name), text) for number, name, text in TABLE]
+        self.assertEqual(found, expected)
+
     def test_python(self):
         self.assertEqual(list(haqothwe.REFUSALS), [row.number for row in TABLE])
         for number, name, text in TABLE:
@@ -76,7 +85,8 @@ class Words(unittest.TestCase):
             self.assertEqual(str(kind(number)), f"refused {number}: {text}")
             copy = pickle.loads(pickle.dumps(kind(number)))
             self.assertEqual((type(copy), copy.number), (kind, number))
-        self.assertEqual(str(haqothwe.Refused(17)), "refused 17: unknown refusal")
+        for number in BEYOND:
+            self.assertEqual(str(haqothwe.Refused(number)), f"refused {number}: unknown refusal")
 
 
 def sheet_with(lot, *classes, plan=ONE_STAGE, words=64):
@@ -121,6 +131,16 @@ class Raised(unittest.TestCase):
     def test_chance(self):
         self.refused(haqothwe.Weights, haqothwe.chance, ONE_STAGE, (0, 0, 0))
         self.refused(haqothwe.ScratchShort, haqothwe.chance, ONE_STAGE, (1, 1, 1), 11)
+
+    def test_lot_chance(self):
+        """Each row before those that follow it: 2, 17, 14."""
+        call = haqothwe.lot_chance
+        for lot in ((0, 0, 0), (0, 3, 1), (1_000_000, 0, 1), (2**32 - 1, 1, 5)):
+            self.refused(haqothwe.Plan, call, [5, 2, 3, 1, 3], lot, 0)
+            self.refused(haqothwe.LotSize, call, ONE_STAGE, lot, 0)
+        for lot in ((5, 0, 0), (0, 0, 5), (999_990, 5, 5)):
+            self.refused(haqothwe.ScratchShort, call, ONE_STAGE, lot, 11)
+            self.assertEqual(len(call(ONE_STAGE, lot, 12)), 2)
 
 
 if __name__ == "__main__":

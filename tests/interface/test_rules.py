@@ -94,8 +94,8 @@ EXAMPLES = [
       "stage 1: a2 = 4294967294 is not below S1 = 10"]),
 ]
 
-# Fields before the plan in a line of the stored cases (tests/reference/answers.rs).
-FIELDS_BEFORE = {"a": 1, "j": 2, "c": 5, "f": 5}
+# Fields before the plan in a line of the stored cases (tests/reference/lines/plan_lines.rs).
+FIELDS_BEFORE = {"a": 1, "j": 2, "c": 5, "f": 5, "l": 5}
 
 
 def stored_plans():
