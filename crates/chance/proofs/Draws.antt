@@ -41,11 +41,11 @@ lot-append : (a b : List ℕ) → Lot a → Lot b → Lot (a ++ b)
 lot-append [] b k l = l
 lot-append (x ∷ a) b k l = (k .0, lot-append a b (k .1) l)
 
--- one unit more of the class x
 units-append : (y : ℕ) (a b : List ℕ) → units-of y (a ++ b) ≡ units-of y a + units-of y b
 units-append y [] b = omega arith
 units-append y (x ∷ a) b = omega (arith, units-append y a b)
 
+-- one unit more, of the class x
 units-moved : (y x : ℕ) (a b : List ℕ) → units-of y (a ++ (x ∷ b)) ≡ units-of y (a ++ b) + cond (eqb x y) 1 0
 units-moved y x a b = omega (arith, units-append y a (x ∷ b), units-append y a b)
 
