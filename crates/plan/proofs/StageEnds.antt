@@ -90,6 +90,16 @@ unfolding End total
 ends-within before (s ∷ rest) e (inl h) = omega arith
 ends-within before (s ∷ rest) e (inr m) = omega (arith, ends-within (before + s .size) rest e m)
 
+module _ (p : List Stage) (some : 1 ≤ length p) (y : ℕ) (l : y ≤ total p) where
+  pub end-within : end-from 0 p y ≤ total p
+  end-within = omega (arith, ends-within 0 p (end-from 0 p y) (next-end y 0 p (inr some) (omega arith) .is))
+
+  pub one-end : (z : ℕ) → y ≤ z → z ≤ end-from 0 p y → end-from 0 p z ≡ end-from 0 p y
+  one-end z k m =
+      let from-y = next-end y 0 p (inr some) (omega arith) in
+      let from-z = next-end z 0 p (inr some) (omega (arith, end-within)) in
+      omega (arith, from-z .from, from-z .first (end-from 0 p y) (from-y .is) m, from-y .first (end-from 0 p z) (from-z .is) (omega (arith, from-z .from)))
+
 -- ---- undecided at the ends, and before the last unit
 
 module _ (p : List Stage) (h : List ℕ) where
