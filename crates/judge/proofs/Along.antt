@@ -1,12 +1,14 @@
--- One turn along a list of classes, where no way stops any more, and the greatest class. Assumes nothing.
+-- One turn along a list of classes, how far a stop may lie, and the greatest class. Assumes nothing.
 use Prim.Native.Nat.{ℕ, _+_, _≤_, _<_}
 use native.Mathlib.Omega.{arith}
 use mathlib.Core.Path.{_≡_, refl, ap, sym, _∙_}
 use mathlib.Core.Logic.{_≢_}
 use native.Mathlib.Decide.{decLt}
+use native.Mathlib.Numerals.{add-one}
 use mathlib.Core.Bool.{Bool, true, false, _&&_}
 use mathlib.Core.List.{List, [], _∷_}
-use lib.ListN.{length, getD, drop}
+use lib.ListN.{length, getD, take, drop}
+use lib.Seq.{take-suc}
 use lib.Dec.{leb}
 use borrow.Author.Tests.{leb-true, le-leb}
 use Rattle.plan.specs.declared.counts.Counts.{Counts}
@@ -14,28 +16,23 @@ use Rattle.plan.specs.declared.stage.Answer.{Answer}
 use Rattle.plan.specs.declared.stage.Answer.the-variants.{GoOn, Accept, Reject}
 use Rattle.plan.specs.declared.ways.Way.{Way}
 use Rattle.plan.specs.Plan.{stages, total, admitted}
-use Rattle.plan.specs.Counts.{units, add-units}
+use Rattle.plan.specs.Counts.{units, add-units, counts}
 use Rattle.plan.specs.Stopping.{answer}
 use Rattle.plan.specs.Sample.{highest-class, are-classes}
 use Rattle.plan.proofs.Lists.{drop-next}
 use Rattle.plan.proofs.Answers.{accept-stops, reject-stops}
 use Rattle.plan.proofs.Promise.{promise, counting}
 use Rattle.plan.proofs.Sample.{classing}
-use Rattle.judge.specs.Judge.{no-stop, stop-here, first-stop}
+use Rattle.judge.specs.Judge.{stop-here, first-stop}
+
+pub next-counts : (xs : List ℕ) (i : ℕ) → i < length xs → counts (take (i + 1) xs) ≡ add-units (getD xs i 0) 1 (counts (take i xs))
+next-counts xs i h = rw (add-one i) (ap counts (take-suc xs i 0 h) ∙ counting .one-more (take i xs) (getD xs i 0))
 
 -- the class at i, the counts d with it, and the answer a to them
 pub turn : (rule : Counts → Answer) (xs : List ℕ) (i : ℕ) (c : Counts) → i < length xs →
     (d : Counts) → d ≡ add-units (getD xs i 0) 1 c → (a : Answer) → a ≡ rule d →
     first-stop rule c (drop i xs) ≡ stop-here d a (first-stop rule d (drop (i + 1) xs))
 turn rule xs i c h d e a f = rw (drop-next xs i h, ← e, ← f)
-
--- after S units
-pub none-past : (w : List ℕ) → admitted w ≡ true → (way : Way) (c : Counts) (xs : List ℕ) → total (stages w) ≤ units c
-    → first-stop (answer way (stages w)) c xs ≡ no-stop
-none-past w e way c [] h = refl
-none-past w e way c (x ∷ xs) h =
-    let u : units (add-units x 1 c) ≡ units c + 1 = counting .added x 1 c in
-    rw (promise w e .past way (add-units x 1 c) (omega arith)) (none-past w e way (add-units x 1 c) xs (omega arith))
 
 -- a stop is within S units
 pub stop-within : (w : List ℕ) → admitted w ≡ true → (way : Way) (c : Counts) (xs : List ℕ) → units (first-stop (answer way (stages w)) c xs .counts) ≤ total (stages w)

@@ -2,12 +2,12 @@
 use Prim.Native.Nat.{ℕ, _+_, _-_, _≤_, _<_}
 use native.Mathlib.Omega.{arith}
 use native.Mathlib.Decide.{decLt}
-use mathlib.Core.Path.{_≡_, refl, ap, sym, subst, _∙_}
-use mathlib.Core.Logic.{_↔_, _≢_, _⊎_, inl, inr}
+use mathlib.Core.Path.{_≡_, refl, ap, sym, _∙_}
+use mathlib.Core.Logic.{_≢_, inl, inr}
 use mathlib.Core.Bool.{Bool, true, false, not}
 use mathlib.Core.List.{List, [], _∷_}
 use lib.ListN.{length, take, getD}
-use lib.Seq.{take-take, length-take-le}
+use lib.Seq.{take-take}
 use Rattle.plan.specs.declared.counts.Counts.{Counts}
 use Rattle.plan.specs.declared.stage.Answer.{Answer}
 use Rattle.plan.specs.declared.stage.Answer.the-variants.{GoOn, Accept, Reject}
@@ -17,13 +17,13 @@ use Rattle.plan.specs.declared.ways.Way.{Way}
 use Rattle.plan.specs.declared.ways.Way.the-variants.{Staged, Earliest}
 use Rattle.plan.specs.Plan.{stages, admitted}
 use Rattle.plan.specs.Counts.{units, no-units, add-units, counts}
-use Rattle.plan.specs.Stopping.{staged, earliest, answer}
-use Rattle.plan.specs.Sample.{Classes, are-classes, Rule, Stops}
+use Rattle.plan.specs.Stopping.{staged, answer}
+use Rattle.plan.specs.Sample.{Classes, are-classes, Stops}
 use Rattle.plan.specs.Refusal.{Refusal, First}
 use Rattle.plan.specs.Reply.{refused}
-use Rattle.plan.specs.Promise.{earliest-rule, staged-rule, One-stage}
-use Rattle.plan.proofs.Answers.{accept-stops, reject-stops}
-use Rattle.plan.proofs.Promise.{shape, one-stage, promise, counting, ways}
+use Rattle.plan.specs.Promise.{staged-rule, One-stage}
+use Rattle.plan.proofs.Answers.{reject-stops}
+use Rattle.plan.proofs.Promise.{shape, one-stage, promise, ways}
 use Rattle.plan.proofs.Sample.{classing}
 use Rattle.plan.proofs.Refusal.{first-refusals, refusal-law}
 use Rattle.judge.specs.declared.stop.Stop.{Stop}
@@ -32,8 +32,8 @@ use Rattle.judge.specs.declared.list.Judged.the-variants.{Refused, Stops
 use Rattle.judge.specs.Event.{events, how-many}
 use Rattle.judge.specs.Judge.{first-stop, stop-of, refusals, judgement, judged, judge-reply}
 use Rattle.judge.specs.Laws.{at, rule-of, Refused-rightly, Granted-rightly, Stop-laws, Class-laws}
-use Rattle.judge.proofs.Along.{stop-within}
-use Rattle.judge.proofs.Least.{Stopped, Passed, walked, next-counts}
+use Rattle.judge.proofs.Along.{stop-within, next-counts}
+use Rattle.judge.proofs.Stops.{to-staged, from-staged, from-earliest, stop-is, is-stop, some, not-reached, stops}
 use Rattle.judge.proofs.Events.{accepted, rejected}
 use Rattle.judge.proofs.FullStop.{at-acceptance, at-rejection}
 
@@ -78,111 +78,13 @@ granted-rightly plan list j = (
         let h : Stopped-list (judgement plan list) ≡ Stopped-list j = sym (first-refusals .grants _ Refused rows (Stopped-list (judgement plan list)) (ap not e, (ap not f, tt))) ∙ g in
         (e, f, cc)
 
--- ---- a way as a stopping rule, by its name
-
-module _ (w : List ℕ) where
-  as-staged : (way : StageWay) → _≡_ {A = Rule} (rule-of (Staged way) w) (staged-rule way (stages w))
-  as-staged way = λ i h. ways .staged way (stages w) (counts h) i
-
-  as-earliest : _≡_ {A = Rule} (rule-of Earliest w) (earliest-rule (stages w))
-  as-earliest = λ i h. ways .earliest (stages w) (counts h) i
-
-  to-staged : (way : StageWay) (xs : List ℕ) (y : ℕ) (v : Answer) → Stops (rule-of (Staged way) w) xs y v → Stops (staged-rule way (stages w)) xs y v
-  to-staged way xs y v s = subst (λ (r : Rule). Stops r xs y v) (as-staged way) s
-
-  from-staged : (way : StageWay) (xs : List ℕ) (y : ℕ) (v : Answer) → Stops (staged-rule way (stages w)) xs y v → Stops (rule-of (Staged way) w) xs y v
-  from-staged way xs y v s = subst (λ (r : Rule). Stops r xs y v) (sym (as-staged way)) s
-
-  from-earliest : (xs : List ℕ) (y : ℕ) (v : Answer) → Stops (earliest-rule (stages w)) xs y v → Stops (rule-of Earliest w) xs y v
-  from-earliest xs y v s = subst (λ (r : Rule). Stops r xs y v) (sym as-earliest) s
-
 -- ---- stops
 
 module _ (w : List ℕ) (e : admitted w ≡ true) where
-  -- no way stops before the first unit
-  begins : (way : Way) → answer way (stages w) no-units ≡ GoOn
-  begins Earliest = ways .earliest (stages w) no-units ∙ promise w e .empty
-  begins (Staged way) = ways .staged way (stages w) no-units ∙ go (staged way (stages w) no-units) refl
-    where
-      stop : (v : Answer) → v ≢ GoOn → staged way (stages w) no-units ≡ v → ⊥
-      stop v n f =
-          let s : Stops (staged-rule way (stages w)) [] 0 v
-          = record { within = omega arith; there = ap (staged way (stages w)) (counting .empty) ∙ f; decides = n; first = λ z l. absurd (omega arith) } in
-          let t = promise w e .staged-later way [] (classing .none) 0 v s in
-          let none : t .0 ≡ 0 = omega (arith, t .1) in
-          let there : earliest-rule (stages w) (take 0 []) ≡ v = rw none at (t .2 .there) in
-          n (sym there ∙ ap (earliest (stages w)) (counting .empty) ∙ promise w e .empty)
-
-      go : (v : Answer) → staged way (stages w) no-units ≡ v → staged way (stages w) no-units ≡ GoOn
-      go GoOn f = f
-      go Accept f = absurd (stop Accept accept-stops f)
-      go Reject f = absurd (stop Reject reject-stops f)
-
-  module _ (way : Way) (xs : List ℕ) where
-    abbrev rule : Counts → Answer
-    rule = answer way (stages w)
-
-    found : Stopped (answer way (stages w)) xs 0 (stop-of way w xs) ⊎ Passed (answer way (stages w)) xs 0 (stop-of way w xs)
-    found = rw (counting .empty) at (walked rule xs)
-
-    at-none : rule-of way w (take 0 xs) ≡ GoOn
-    at-none = ap rule (counting .empty) ∙ begins way
-
-    -- the first place that stops is the stop
-    same-place : (y : ℕ) (v : Answer) → Stops (rule-of way w) xs y v → (t : Stopped (answer way (stages w)) xs 0 (stop-of way w xs)) → t .y ≡ y
-    same-place y v s t = go (decLt (t .y) y) (decLt y (t .y)) (decLt 0 y)
-      where
-        go : Dec (t .y < y) → Dec (y < t .y) → Dec (0 < y) → t .y ≡ y
-        go (yes l) d f = absurd (t .decides (s .first (t .y) l))
-        go (no l) (no m) f = omega arith
-        go (no l) (yes m) (yes k) = absurd (s .decides (sym (s .there) ∙ t .first y k m))
-        go (no l) (yes m) (no k) = let none : y ≡ 0 = omega arith in absurd (s .decides (sym (s .there) ∙ rw none at-none))
-
-    stop-is : (y : ℕ) (v : Answer) → Stops (rule-of way w) xs y v → stop-of way w xs ≡ record { answer = v; counts = counts (take y xs) }
-    stop-is y v s = go found
-      where
-        go : Stopped (answer way (stages w)) xs 0 (stop-of way w xs) ⊎ Passed (answer way (stages w)) xs 0 (stop-of way w xs)
-            → stop-of way w xs ≡ record { answer = v; counts = counts (take y xs) }
-        go (inl t) =
-            t .stop ∙ ap (λ (z : ℕ). record { answer = rule (counts (take z xs)); counts = counts (take z xs) }) (same-place y v s t)
-            ∙ ap (λ (a : Answer). record { answer = a; counts = counts (take y xs) }) (s .there)
-        go (inr t) = elim (decLt 0 y) [ yes k ↦ absurd (s .decides (sym (s .there) ∙ t .never y k (s .within))) | no k ↦ let none : y ≡ 0 = omega arith in absurd (s .decides (sym (s .there) ∙ rw none at-none)) ]
-
-    is-stop : stop-of way w xs .answer ≢ GoOn → Stops (rule-of way w) xs (at (stop-of way w xs)) (stop-of way w xs .answer)
-    is-stop n = go found
-      where
-        go : Stopped (answer way (stages w)) xs 0 (stop-of way w xs) ⊎ Passed (answer way (stages w)) xs 0 (stop-of way w xs)
-            → Stops (rule-of way w) xs (at (stop-of way w xs)) (stop-of way w xs .answer)
-        go (inr t) = absurd (n (ap (λ (s : Stop). s .answer) (t .stop)))
-        go (inl t) =
-            let u : units (counts (take (t .y) xs)) ≡ t .y = counting .length-of (take (t .y) xs) ∙ length-take-le (t .y) xs (t .within) in
-            rw (t .stop, u)
-            (record {
-              within = t .within;
-              there = refl;
-              decides = t .decides;
-              first = λ z l. elim (decLt 0 z) [ yes k ↦ t .first z k l | no k ↦ let none : z ≡ 0 = omega arith in rw none at-none ];
-            })
-
-    not-reached : stop-of way w xs .answer ≡ GoOn → at (stop-of way w xs) ≡ 0
-    not-reached g = go found
-      where
-        go : Stopped (answer way (stages w)) xs 0 (stop-of way w xs) ⊎ Passed (answer way (stages w)) xs 0 (stop-of way w xs) → at (stop-of way w xs) ≡ 0
-        go (inl t) = absurd (t .decides (sym (ap (λ (s : Stop). s .answer) (t .stop)) ∙ g))
-        go (inr t) = ap at (t .stop)
-
-    stops : (y : ℕ) (v : Answer) → Stops (rule-of way w) xs y v ↔ ((at (stop-of way w xs) ≡ y) × (stop-of way w xs .answer ≡ v) × (v ≢ GoOn))
-    stops y v = (
-      λ s.
-          let is = stop-is y v s in
-          (ap at is ∙ counting .length-of (take y xs) ∙ length-take-le y xs (s .within), ap (λ (t : Stop). t .answer) is, s .decides),
-      λ f. rw (f .0, f .1) at (is-stop (λ g. f .2 (sym (f .1) ∙ g))),
-    )
-
   no-say : (way : Way) (xs ys : List ℕ) → stop-of way w xs .answer ≢ GoOn → at (stop-of way w xs) ≤ length ys
       → take (at (stop-of way w xs)) ys ≡ take (at (stop-of way w xs)) xs → stop-of way w ys ≡ stop-of way w xs
   no-say way xs ys n l same =
-      let s = is-stop way xs n in
+      let s = is-stop w e way xs n in
       let y : ℕ = at (stop-of way w xs) in
       let t : Stops (rule-of way w) ys (at (stop-of way w xs)) (stop-of way w xs .answer) = record {
         within = l;
@@ -190,8 +92,8 @@ module _ (w : List ℕ) (e : admitted w ≡ true) where
         decides = s .decides;
         first = λ z m. ap (rule-of way w) (sym (take-take z y ys (omega arith)) ∙ ap (take z) same ∙ take-take z y xs (omega arith)) ∙ s .first z m;
       } in
-      stop-is way ys y (stop-of way w xs .answer) t ∙ ap (λ (h : List ℕ). record { answer = stop-of way w xs .answer; counts = counts h }) same
-      ∙ sym (stop-is way xs y (stop-of way w xs .answer) s)
+      stop-is w e way ys y (stop-of way w xs .answer) t ∙ ap (λ (h : List ℕ). record { answer = stop-of way w xs .answer; counts = counts h }) same
+      ∙ sym (stop-is w e way xs y (stop-of way w xs .answer) s)
 
   -- ---- one stage
 
@@ -215,7 +117,7 @@ module _ (w : List ℕ) (e : admitted w ≡ true) where
         o = one-stage w e n
 
         c-is : counts (take (i + 1) xs) ≡ add-units (getD xs i 0) 1 (counts (take i xs))
-        c-is = next-counts (answer (Staged Full) (stages w)) xs i l
+        c-is = next-counts xs i l
 
         u : units (add-units (getD xs i 0) 1 (counts (take i xs))) ≤ getD w 0 0
         u = elim (decLt (getD w 0 0) (units (add-units (getD xs i 0) 1 (counts (take i xs))))) [
@@ -232,11 +134,11 @@ module _ (w : List ℕ) (e : admitted w ≡ true) where
     one-event : (xs : List ℕ) → stop-of (Staged Full) w xs .answer ≢ GoOn
         → how-many (events (getD w 0 0) (getD w 2 0) (getD w 4 0) (stop-of (Staged Full) w xs .counts)) ≡ 1
     one-event xs d =
-        let s = is-stop (Staged Full) xs d in
+        let s = is-stop w e (Staged Full) xs d in
         let y : ℕ = at (stop-of (Staged Full) w xs) in
-        let some : 0 < y = elim (decLt 0 y) [ yes k ↦ k | no k ↦ let none : y ≡ 0 = omega arith in absurd (d (sym (s .there) ∙ rw none (at-none (Staged Full) xs))) ] in
+        let k = some w e (Staged Full) xs d in
         let last : y - 1 + 1 ≡ y = omega arith in
-        rw (ap (λ (t : Stop). t .counts) (stop-is (Staged Full) xs y (stop-of (Staged Full) w xs .answer) s), ← last)
+        rw (ap (λ (t : Stop). t .counts) (stop-is w e (Staged Full) xs y (stop-of (Staged Full) w xs .answer) s), ← last)
         (next-event xs (y - 1) (omega (arith, s .within)) (to-staged w Full xs y _ s .first (y - 1) (omega arith)) (stop-of (Staged Full) w xs .answer) d
         (rw last (to-staged w Full xs y _ s .there)))
 

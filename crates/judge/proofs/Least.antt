@@ -3,21 +3,18 @@
 use Prim.Native.Nat.{ℕ, zero, suc, _+_, _≤_, _<_}
 use native.Mathlib.Omega.{arith}
 use native.Mathlib.Decide.{decLt}
-use native.Mathlib.Numerals.{add-one}
 use mathlib.Core.Path.{_≡_, refl, ap, sym, _∙_}
 use mathlib.Core.Logic.{_≢_, _⊎_, inl, inr}
 use mathlib.Core.List.{List}
-use lib.ListN.{length, getD, take, drop, drop-of-length-le}
-use lib.Seq.{take-suc}
+use lib.ListN.{length, take, drop, drop-of-length-le}
 use Rattle.plan.specs.declared.counts.Counts.{Counts}
 use Rattle.plan.specs.declared.stage.Answer.{Answer}
 use Rattle.plan.specs.declared.stage.Answer.the-variants.{GoOn, Accept, Reject}
-use Rattle.plan.specs.Counts.{add-units, counts}
+use Rattle.plan.specs.Counts.{counts}
 use Rattle.plan.proofs.Answers.{accept-stops, reject-stops}
-use Rattle.plan.proofs.Promise.{counting}
 use Rattle.judge.specs.declared.stop.Stop.{Stop}
 use Rattle.judge.specs.Judge.{no-stop, stop-here, first-stop}
-use Rattle.judge.proofs.Along.{turn}
+use Rattle.judge.proofs.Along.{turn, next-counts}
 
 module _ (rule : Counts → Answer) (x : List ℕ) where
   -- after i units of x: y is the first place that stops, or none does
@@ -32,9 +29,6 @@ module _ (rule : Counts → Answer) (x : List ℕ) where
   pub record Passed (i : ℕ) (s : Stop) : Type 0 where
     pub stop : s ≡ no-stop
     pub never : (z : ℕ) → i < z → z ≤ length x → rule (counts (take z x)) ≡ GoOn
-
-  pub next-counts : (i : ℕ) → i < length x → counts (take (i + 1) x) ≡ add-units (getD x i 0) 1 (counts (take i x))
-  next-counts i h = rw (add-one i) (ap counts (take-suc x i 0 h) ∙ counting .one-more (take i x) (getD x i 0))
 
   -- the rule goes on at i + 1
   module _ (i : ℕ) (s : Stop) (g : rule (counts (take (i + 1) x)) ≡ GoOn) where
@@ -71,7 +65,7 @@ module _ (rule : Counts → Answer) (x : List ℕ) where
       inr (record { stop = ap (first-stop rule (counts (take i x))) (drop-of-length-le x all); never = λ z l m. absurd (omega arith) })
   walk (suc n) i e =
       let h : i < length x = omega arith in
-      rw (turn rule x i (counts (take i x)) h (counts (take (i + 1) x)) (next-counts i h) (rule (counts (take (i + 1) x))) refl)
+      rw (turn rule x i (counts (take i x)) h (counts (take (i + 1) x)) (next-counts x i h) (rule (counts (take (i + 1) x))) refl)
       (go (rule (counts (take (i + 1) x))) refl h (walk n (i + 1) (omega arith)))
     where
       go : (a : Answer) → rule (counts (take (i + 1) x)) ≡ a → i < length x → Stopped (i + 1) (first-stop rule (counts (take (i + 1) x)) (drop (i + 1) x)) ⊎ Passed (i + 1) (first-stop rule (counts (take (i + 1) x)) (drop (i + 1) x))

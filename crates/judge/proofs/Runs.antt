@@ -1,88 +1,102 @@
--- A run of classes within one stage: a way that goes on at its end is passed over, and a way that stops there stops among its
--- classes. Assumes nothing.
-use Prim.Native.Nat.{ℕ, _+_, _-_, _≤_, _<_}
+-- The units of a run of a list's classes. Assumes nothing.
+use Prim.Native.Nat.{ℕ, zero, suc, _+_, _-_, _≤_, _<_}
 use native.Mathlib.Omega.{arith}
-use mathlib.Core.Path.{_≡_, refl, ap, sym, _∙_}
-use mathlib.Core.Logic.{_≢_}
-use mathlib.Core.Bool.{true}
-use mathlib.Core.List.{List, [], _∷_, _++_}
-use lib.ListN.{length, getD, take, drop, take-append-drop, length-drop}
-use lib.Seq.{drop-drop, length-take-le}
+use mathlib.Core.Path.{_≡_, ap, sym, _∙_}
+use mathlib.Core.Bool.{not}
+use mathlib.Core.List.{List, [], _∷_}
+use lib.ListN.{length, getD, take, drop, length-drop}
+use lib.Seq.{take-add, length-take-le}
+use lib.Dec.{eqb}
+use mir.Val.{boolByte}
+use borrow.Author.Tests.{ne-eqb}
 use Rattle.plan.specs.declared.counts.Counts.{Counts}
-use Rattle.plan.specs.declared.stage.Answer.{Answer}
-use Rattle.plan.specs.declared.stage.Answer.the-variants.{GoOn, Accept, Reject}
-use Rattle.plan.specs.declared.ways.Way.{Way}
-use Rattle.plan.specs.Plan.{stages, admitted}
-use Rattle.plan.specs.Counts.{units, add-units, counts-after}
-use Rattle.plan.specs.Stopping.{answer}
-use Rattle.plan.specs.Promise.{Same-stage}
-use Rattle.plan.proofs.Lists.{drop-next}
-use Rattle.plan.proofs.Promise.{promise, counting}
-use Rattle.judge.specs.declared.stop.Stop.{Stop}
-use Rattle.judge.specs.Judge.{stop-here, first-stop}
-
--- ---- counting
-
--- the class at i, and the counts d with it
-pub count-turn : (xs : List ℕ) (i : ℕ) (c : Counts) → i < length xs → (d : Counts) → d ≡ add-units (getD xs i 0) 1 c →
-    counts-after c (drop i xs) ≡ counts-after d (drop (i + 1) xs)
-count-turn xs i c h d e = rw (drop-next xs i h, e) (counting .after-one c (getD xs i 0) (drop (i + 1) xs))
-
--- ---- along a run and what follows it
-
-module _ (w : List ℕ) (e : admitted w ≡ true) (way : Way) where
-  passes : (c : Counts) (xs ys : List ℕ) → Same-stage (stages w) (units c + 1) (units c + length xs) → answer way (stages w) (counts-after c xs) ≡ GoOn
-      → first-stop (answer way (stages w)) c (xs ++ ys) ≡ first-stop (answer way (stages w)) (counts-after c xs) ys
-  passes c [] ys same on = rw (counting .after-none c)
-  passes c (x ∷ xs) ys same on =
-      let u : units (add-units x 1 c) ≡ units c + 1 = counting .added x 1 c in
-      let at-end : answer way (stages w) (counts-after (add-units x 1 c) xs) ≡ GoOn = rw (counting .after-one c x xs) at on in
-      rw (counting .after-one c x xs, promise w e .within-stage way (add-units x 1 c) xs (λ z m k. omega (arith, same z m (omega arith))) at-end)
-      (passes (add-units x 1 c) xs ys (λ z m k. omega (arith, same z m (omega arith))) at-end)
-
-stops-here : (d : Counts) (a : Answer) (s t : Stop) → a ≢ GoOn → stop-here d a s ≡ stop-here d a t
-stops-here d GoOn s t n = absurd (n refl)
-stops-here d Accept s t n = refl
-stops-here d Reject s t n = refl
-
-stops : (rule : Counts → Answer) (c : Counts) (xs ys : List ℕ) → 1 ≤ length xs → rule (counts-after c xs) ≢ GoOn → first-stop rule c xs ≡ first-stop rule c (xs ++ ys)
-stops rule c [] ys l n = absurd (omega arith)
-stops rule c (x ∷ []) ys l n = stops-here (add-units x 1 c) (rule (add-units x 1 c)) _ _ (λ g. n (rw (counting .after-one c x [], counting .after-none (add-units x 1 c)) g))
-stops rule c (x ∷ y ∷ xs) ys l n =
-    ap (stop-here (add-units x 1 c) (rule (add-units x 1 c))) (stops rule (add-units x 1 c) (y ∷ xs) ys (omega arith) (λ g. n (rw (counting .after-one c x (y ∷ xs)) g)))
-
--- ---- the run from i to j in a list, with the counts c before it and d after it
+use Rattle.plan.specs.Counts.{units, nongood, no-units, add-units, counts-after, counts}
+use Rattle.plan.proofs.Promise.{counting}
+use Rattle.judge.specs.Run.{both-counts}
+use Rattle.judge.proofs.Along.{next-counts}
 
 -- the classes of `&xs[i..j]`, as the borrow checker has them
 abbrev pub run : List ℕ → ℕ → ℕ → List ℕ
 run xs i j = take (j - i) (drop i xs)
 
-module _ (xs : List ℕ) (i j : ℕ) (l : i < j) where
-  rejoined : run xs i j ++ drop j xs ≡ drop i xs
-  rejoined =
-      let k : i + (j - i) ≡ j = omega arith in
-      ap (λ (r : List ℕ). run xs i j ++ r) (sym (drop-drop (j - i) i xs ∙ ap (λ (n : ℕ). drop n xs) k)) ∙ take-append-drop (j - i) (drop i xs)
+-- ---- the counts of a list's first classes
 
-  module _ (k : j ≤ length xs) where
-    pub run-length : length (run xs i j) ≡ j - i
-    run-length = length-take-le (j - i) (drop i xs) (omega (arith, length-drop i xs))
+module _ (xs : List ℕ) where
+  pub units-to : (i : ℕ) → i ≤ length xs → units (counts (take i xs)) ≡ i
+  units-to i l = counting .length-of (take i xs) ∙ length-take-le i xs l
 
-    module _ (c d : Counts) (n : units c ≡ i) (f : d ≡ counts-after c (run xs i j)) where
-      pub run-units : units d ≡ j
-      run-units = ap units f ∙ omega (arith, counting .after-more c (run xs i j), run-length)
+  module _ (i j : ℕ) (l : i ≤ j) where
+    -- from i classes on to j
+    pub run-after : (b : Counts) → counts-after (counts-after b (take i xs)) (run xs i j) ≡ counts-after b (take j xs)
+    run-after b =
+        let k : i + (j - i) ≡ j = omega arith in
+        sym (counting .after-append b (take i xs) (run xs i j)) ∙ ap (counts-after b) (sym (take-add i (j - i) xs) ∙ ap (λ (n : ℕ). take n xs) k)
 
-      module _ (w : List ℕ) (e : admitted w ≡ true) (way : Way) where
-        pub run-passed : Same-stage (stages w) (i + 1) j → answer way (stages w) d ≡ GoOn
-            → first-stop (answer way (stages w)) c (drop i xs) ≡ first-stop (answer way (stages w)) d (drop j xs)
-        run-passed same on =
-            let m = run-length in
-            ap (first-stop (answer way (stages w)) c) (sym rejoined) ∙
-            passes w e way c (run xs i j) (drop j xs) (λ z t q. omega (arith, same z t (omega arith))) (ap (answer way (stages w)) (sym f) ∙ on) ∙
-            ap (λ (b : Counts). first-stop (answer way (stages w)) b (drop j xs)) (sym f)
+    pub run-counts : (c d : Counts) → c ≡ counts (take i xs) → d ≡ counts-after c (run xs i j) → d ≡ counts (take j xs)
+    run-counts c d e f =
+        f ∙ ap (λ (b : Counts). counts-after b (run xs i j)) (e ∙ counting .counted (take i xs)) ∙ run-after no-units ∙ sym (counting .counted (take j xs))
 
-        pub run-stops : (a : Answer) → answer way (stages w) d ≡ a → a ≢ GoOn
-            → first-stop (answer way (stages w)) c (run xs i j) ≡ first-stop (answer way (stages w)) c (drop i xs)
-        run-stops a g on =
-            let m = run-length in
-            stops (answer way (stages w)) c (run xs i j) (drop j xs) (omega arith) (λ h. on (sym g ∙ ap (answer way (stages w)) f ∙ h)) ∙
-            ap (first-stop (answer way (stages w)) c) rejoined
+    pub run-length : j ≤ length xs → length (run xs i j) ≡ j - i
+    run-length k = length-take-le (j - i) (drop i xs) (omega (arith, length-drop i xs))
+
+-- ---- counts by their nongood, bad and all units
+
+pub same-counts : (c d : Counts) → nongood c ≡ nongood d → c .bad ≡ d .bad → units c ≡ units d → c ≡ d
+same-counts c d n b u =
+    let g : c .good ≡ d .good = omega arith in
+    let m : c .marginal ≡ d .marginal = omega arith in
+    fields g m b
+  where
+    fields : c .good ≡ d .good → c .marginal ≡ d .marginal → c .bad ≡ d .bad
+        → _≡_ {A = Counts} (record { good = c .good; marginal = c .marginal; bad = c .bad }) (record { good = d .good; marginal = d .marginal; bad = d .bad })
+    fields g m b = rw (g, m, b)
+
+-- the unit that a class adds
+record One-more (x : ℕ) (c : Counts) : Type 0 where
+  nongood : nongood (add-units x 1 c) ≡ nongood c + boolByte (not (eqb x 0))
+  bad : add-units x 1 c .bad ≡ c .bad + boolByte (eqb x 2)
+
+one-more : (x : ℕ) (c : Counts) → One-more x c
+one-more x c = go x
+  where
+    by : (y : ℕ) (d : Counts) → add-units y 1 c ≡ d → nongood d ≡ nongood c + boolByte (not (eqb y 0)) → d .bad ≡ c .bad + boolByte (eqb y 2) → One-more y c
+    by y d e n b = record { nongood = ap nongood e ∙ n; bad = ap (λ (f : Counts). f .bad) e ∙ b }
+
+    go : (y : ℕ) → One-more y c
+    go zero = by 0 _ (counting .good 1 c) (omega arith) (omega arith)
+    go (suc zero) = by 1 _ (counting .marginal 1 1 c (λ e. omega arith) (λ e. omega arith)) (omega arith) (omega arith)
+    go (suc (suc zero)) = by 2 _ (counting .bad 1 c) (omega arith) (omega arith)
+    go (suc (suc (suc y))) =
+        by (suc (suc (suc y))) _ (counting .marginal (suc (suc (suc y))) 1 c (λ e. omega arith) (λ e. omega arith))
+        (rw (ne-eqb (suc (suc (suc y))) 0 (λ e. omega arith)) (omega arith))
+        (rw (ne-eqb (suc (suc (suc y))) 2 (λ e. omega arith)) (omega arith))
+
+-- one class more of a list
+pub record Turn (xs : List ℕ) (i : ℕ) : Type 0 where
+  pub nongood : nongood (counts (take (i + 1) xs)) ≡ nongood (counts (take i xs)) + boolByte (not (eqb (getD xs i 0) 0))
+  pub bad : counts (take (i + 1) xs) .bad ≡ counts (take i xs) .bad + boolByte (eqb (getD xs i 0) 2)
+  pub units : units (counts (take (i + 1) xs)) ≡ i + 1
+
+pub turn : (xs : List ℕ) (i : ℕ) → i < length xs → Turn xs i
+turn xs i h =
+    let e = next-counts xs i h in
+    let o = one-more (getD xs i 0) (counts (take i xs)) in
+    record { nongood = ap nongood e ∙ o .nongood; bad = ap (λ (d : Counts). d .bad) e ∙ o .bad; units = units-to xs (i + 1) (omega arith) }
+
+-- the units of a run, by those of its classes alone
+sums : (c : Counts) (xs : List ℕ)
+    → (nongood (counts-after c xs) ≡ nongood c + nongood (counts-after no-units xs)) × (counts-after c xs .bad ≡ c .bad + counts-after no-units xs .bad)
+sums c [] = rw (counting .after-none c, counting .after-none no-units) (omega arith)
+sums c (x ∷ xs) =
+    let a = sums (add-units x 1 c) xs in
+    let b = sums (add-units x 1 no-units) xs in
+    let d = one-more x c in
+    let f = one-more x no-units in
+    rw (counting .after-one c x xs, counting .after-one no-units x xs) (omega arith)
+
+pub both-are : (c : Counts) (xs : List ℕ) → both-counts c (counts xs) ≡ counts-after c xs
+both-are c xs =
+    let a = sums c xs in
+    let b = counting .after-more c xs .units in
+    let d = counting .after-more no-units xs .units in
+    rw (counting .counted xs) (same-counts (both-counts c (counts-after no-units xs)) (counts-after c xs) (omega arith) (omega arith) (omega arith))

@@ -1,7 +1,11 @@
 // A list of classes judged four ways.
 use crate::event::event_of;
 use crate::stop::Stop;
-use crate::stop::first_stop;
+use crate::stop::before_full_stop;
+use crate::stop::earliest_stop;
+use crate::stop::semi_stop;
+use crate::stop::stop_after;
+use crate::stop::uncurtailed_stop;
 use plan::StageWay;
 use plan::Way;
 ghost use mathlib.Core.Path.{_≡_};
@@ -47,12 +51,14 @@ pub fn judge(plan: &[u32], list: &[u8]) -> Judged
     if !are_classes(list) {
         return Judged::Refused(7);
     }
-    let full = first_stop(plan, Way::Staged(StageWay::Full), list);
+    let before = before_full_stop(plan, list);
+    let full = stop_after(plan, Way::Staged(StageWay::Full), list, before);
+    let uncurtailed = uncurtailed_stop(plan, list, full);
     Judged::Stops(Judgement {
-        uncurtailed: first_stop(plan, Way::Staged(StageWay::Uncurtailed), list),
-        semi: first_stop(plan, Way::Staged(StageWay::Semi), list),
+        uncurtailed,
+        semi: semi_stop(full, uncurtailed),
         full,
-        earliest: first_stop(plan, Way::Earliest, list),
+        earliest: earliest_stop(plan, list, full, before),
         event: event_of(plan, full),
     })
 }

@@ -7,16 +7,14 @@ use mathlib.Core.Bool.{true, false, not}
 use mathlib.Core.Logic.{inl, inr}
 use mathlib.Core.List.{List}
 use mathlib.Core.Path.{_≡_, refl, ap, sym, _∙_}
-use Rattle.plan.specs.declared.ways.StageWay.the-variants.{Full}
-use Rattle.plan.specs.declared.ways.Way.the-variants.{Staged}
 use Rattle.plan.specs.Plan.{admitted}
-use Rattle.plan.specs.Counts.{no-units}
 use Rattle.plan.specs.Sample.{are-classes}
 use Rattle.plan.proofs.Promise.{shape}
 use Rattle.plan.proofs.Refusal.{first-refusals}
 use Rattle.judge.specs.declared.list.Judged.the-variants.{Stops, Refused}
-use Rattle.judge.specs.Judge.{event-of, refusals, judgement, judged}
-use Rattle.judge.proofs.Along.{stop-within}
+use Rattle.judge.specs.Judge.{refusals, judgement, judged}
+use Rattle.judge.specs.Run.{semi-stop}
+use Rattle.judge.proofs.FromFull.{in-plan, semi-is}
 use Rattle.judge.proofs.list.judge.Statement.{statement}
 use Rattle.judge.proofs.list.judge.Tie as tie
 
@@ -42,6 +40,9 @@ returns c =
 ok : (c : tie.Else2) → admitted (c .before .before .before .before .before .before .args .plan .now) ≡ true
 ok c = sym (c .before .before .before .admitted .ensures) ∙ not-false _ (c .before .before .if1 .left)
 
+classes : (c : tie.Else2) → are-classes (c .before .before .before .before .before .before .args .list .now) ≡ true
+classes c = sym (c .before .are-classes .ensures) ∙ not-false _ (c .if2 .left)
+
 returns-2 : tie.Need-returns-2
 returns-2 c =
     let a = c .before .before .before .before .before .before .args in
@@ -51,23 +52,20 @@ returns-2 c =
 
 event-of-requires : tie.Need-event-of-requires
 event-of-requires c κs =
-    let e = c .before .before .before .before in
+    let e = c .before .before .before .before .before in
     let a = e .before .before .before .before .before .before .args in
-    let u = stop-within (a .plan .now) (ok e) (Staged Full) no-units (a .list .now) in
-    (ok e, rw (c .before .before .before .first-stop .ensures) (omega (arith, u, shape (a .plan .now) (ok e) .thousand-units)))
+    (ok e, omega (arith, in-plan (a .plan .now) (ok e) (a .list .now) _ (c .before .before .before .stop-after .ensures), shape (a .plan .now) (ok e) .thousand-units))
 
 returns-3 : tie.Need-returns-3
 returns-3 c =
-    let e = c .before .before .before .before .before in
+    let e = c .before .before .before .before .before .before in
     let a = e .before .before .before .before .before .before .args in
-    rw (
-      c .event-of .ensures,
-      c .before .before .before .before .first-stop .ensures,
-      c .before .before .before .first-stop2 .ensures,
-      c .before .before .first-stop3 .ensures,
-      c .before .first-stop4 .ensures,
-    )
-    (granted (a .plan .now) (a .list .now) (ok e) (sym (e .before .are-classes .ensures) ∙ not-false _ (e .if2 .left)))
+    let full = c .before .before .before .before .stop-after in
+    let uncurtailed = c .before .before .before .uncurtailed-stop in
+    let semi = c .before .before .semi-stop .ensures ∙ ap (semi-stop (full .result)) (uncurtailed .ensures)
+    ∙ semi-is (a .plan .now) (ok e) (a .list .now) (full .result) (full .ensures) (classes e) in
+    rw (c .event-of .ensures, semi, uncurtailed .ensures, c .before .earliest-stop .ensures, full .ensures)
+    (granted (a .plan .now) (a .list .now) (ok e) (classes e))
 
 pub judge-spec : {M : Type 1} → statement M
 judge-spec =
@@ -78,8 +76,9 @@ judge-spec =
     (λ c κs. search needs)
     returns-2
     (λ c κs. ok c)
-    (λ c κs. ok (c .before))
-    (λ c κs. ok (c .before .before))
-    (λ c κs. ok (c .before .before .before))
+    (λ c κs. (ok (c .before), c .before-full-stop .ensures))
+    (λ c κs. (ok (c .before .before), c .stop-after .ensures))
+    (λ c κs. search needs)
+    (λ c κs. let e = c .before .before .before .before in (ok e, classes e, c .before .before .stop-after .ensures, c .before .before .before .before-full-stop .ensures))
     event-of-requires
     returns-3)
