@@ -18,10 +18,11 @@ pub struct Subject {
 }
 
 pub fn all() -> Vec<Subject> {
-    let random = &mut Random::new(1_000);
-    let mut all = lists(random);
+    let mut all = lists(&mut Random::new(1_000));
     all.extend(plans().map(|plan| chance(&plan)));
     all.extend(plans().map(|plan| lot_chance(&plan)));
+    // Random numbers of their own, so that the sheets do not change with the lists.
+    let random = &mut Random::new(1_000);
     all.extend(short_lots(random));
     all.extend(other_sheets(random));
     all
@@ -42,20 +43,22 @@ fn plans() -> [Named; 3] {
     ]
 }
 
-/// Good classes, and mixed ones that stay undecided up to the plan's last unit.
+/// Beginnings of a list of good classes, and of a mixed one that stays undecided up to
+/// the plan's last unit.
 fn lists(random: &mut Random) -> Vec<Subject> {
-    let [one, equal, differing] = plans();
-    let mut mixed = |(_, words): &Named, length: usize| {
-        let plan = Plan::admitted(words).expect("the plan is admitted");
-        draw::held(random, &plan, &Table::new(&plan), plan.units(), length)
-    };
-    vec![
-        judge(&one, "100 good classes", vec![0; 100]),
-        judge(&one, "1,000 good classes", vec![0; 1_000]),
-        judge(&equal, "1,000 mixed classes", mixed(&equal, 1_000)),
-        judge(&differing, "1,000 mixed classes", mixed(&differing, 1_000)),
-        judge(&one, "100,000 mixed classes", mixed(&one, 100_000)),
-    ]
+    let lengths = [("100", 100), ("1,000", 1_000), ("100,000", 100_000)];
+    let mut all = vec![];
+    for named in plans() {
+        let plan = Plan::admitted(&named.1).expect("the plan is admitted");
+        let mixed = draw::held(random, &plan, &Table::new(&plan), plan.units(), 100_000);
+        for (kind, list) in [("good", vec![0; 100_000]), ("mixed", mixed)] {
+            for (digits, length) in lengths {
+                let classes = format!("{digits} {kind} classes");
+                all.push(judge(&named, &classes, list[..length].to_vec()));
+            }
+        }
+    }
+    all
 }
 
 fn judge((name, plan): &Named, classes: &str, list: Vec<u8>) -> Subject {
