@@ -23,24 +23,37 @@ fn stops(plan: &Plan, list: &[u8]) -> Stops {
             break;
         }
         let after = before.plus(count(&list[start..end]));
-        let run = Run {
-            list,
-            before,
-            after,
-        };
-        stops.in_stage(plan, i, &run);
-        if stops.uncurtailed.state != UNDECIDED {
-            break;
+        if may_stop(&plan.stages()[i..], after) {
+            let run = Run {
+                list,
+                before,
+                after,
+            };
+            stops.in_stage(plan, i, &run);
+            if stops.uncurtailed.state != UNDECIDED {
+                break;
+            }
         }
         before = after;
     }
     stops
 }
 
+/// Whether a way may have stopped by these counts in the first of these stages: earliest
+/// accepts only if the numbers of some stage are met. Asked first, since the limits take
+/// longer to find.
+fn may_stop(stages: &[Stage], counts: Counts) -> bool {
+    let met = |stage: &Stage| stage.accepting().met_by(counts);
+    full(&stages[0], counts) != UNDECIDED || stages[1..].iter().any(met)
+}
+
+/// The classes that vector code takes at a time; what is left over it takes one by one.
+const TURN: u32 = 32;
+
 /// Bytes count up to 255, so that one instruction counts many classes.
 fn count(classes: &[u8]) -> Counts {
     let mut counts = Counts::default();
-    for part in classes.chunks(255) {
+    for part in classes.chunks(7 * TURN as usize) {
         let (mut nongood, mut bad) = (0_u8, 0_u8);
         for &class in part {
             nongood += u8::from(class != 0);
@@ -77,7 +90,9 @@ impl Run<'_> {
             return Stop::default();
         }
         while high.units - low.units > 1 {
-            let middle = low.units.midpoint(high.units);
+            let half = (high.units - low.units) / 2;
+            let left_over = if half > TURN { half % TURN } else { 0 };
+            let middle = low.units + half - left_over;
             let part = &self.list[low.units as usize..middle as usize];
             let counts = low.plus(count(part));
             if way(counts) == UNDECIDED {
