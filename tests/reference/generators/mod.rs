@@ -5,6 +5,7 @@
 //! - Random: random, draw.
 //! - Made of these: plan_cases, marked_cases and lot_cases; sheet_cases, sheet_damage
 //!   and marked_sheets, by sheet_script; full_sheets; lots_script.
+//! - Listed place by place: stop_places, stop_stages, sooner_stops.
 
 pub mod draw;
 pub mod full_sheets;
@@ -24,3 +25,6 @@ pub mod sheet_cases;
 pub mod sheet_damage;
 pub mod sheet_script;
 pub mod sized_lots;
+pub mod sooner_stops;
+pub mod stop_places;
+pub mod stop_stages;

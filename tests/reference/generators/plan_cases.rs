@@ -1,6 +1,6 @@
 //! The seeded cases on plans: hand-written edges, then random plans with their lists and
 //! chances. marked_cases.rs has those with marked stages, lot_cases.rs those on lots of
-//! known size.
+//! known size, stop_places.rs those with stops at given places.
 
 use super::hand_written::{runs, A, B, LARGEST, ONE, SEVEN, THREE, TWO, UNIT, WEIGHTS, WRAPS};
 use super::known_lots::{CHANCES, KNOWN, NEAR_A, NEAR_B};
@@ -18,10 +18,7 @@ const SEED: u64 = 1_000_060;
 
 /// All case lines, each once.
 pub fn all() -> Vec<String> {
-    let mut cases = Cases {
-        lines: Vec::new(),
-        random: Random::new(SEED),
-    };
+    let mut cases = Cases::none();
     cases.known_lots();
     cases.admission_edges();
     cases.lists_at_limits();
@@ -35,8 +32,16 @@ pub fn all() -> Vec<String> {
     cases.long_lists();
     cases.marked_plans();
     cases.sized_lots();
+    cases.stop_places();
     let mut seen = HashSet::new();
     cases.lines.retain(|line| seen.insert(line.clone()));
+    cases.lines
+}
+
+/// The lines with stops at given places alone.
+pub fn stop_places() -> Vec<String> {
+    let mut cases = Cases::none();
+    cases.stop_places();
     cases.lines
 }
 
@@ -46,6 +51,13 @@ pub struct Cases {
 }
 
 impl Cases {
+    fn none() -> Cases {
+        Cases {
+            lines: Vec::new(),
+            random: Random::new(SEED),
+        }
+    }
+
     pub fn admission(&mut self, words: &[u32]) {
         self.lines.push(format!("a{}", fields(words)));
     }
