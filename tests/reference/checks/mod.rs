@@ -3,14 +3,17 @@
 mod chance_selftest;
 mod lot_chance_selftest;
 mod marked_selftest;
+mod places_met;
 mod plan_selftest;
 mod sheet_histories;
 pub mod stats;
+mod stop_coverage;
 
 use crate::lines::plan_lines;
 use crate::model::plan_calls::PlanCalls;
 
-/// All checks of the model; the first one that fails is the error.
+/// All checks of the model, and of what some cases cover; the first one that fails is the
+/// error.
 pub fn selftest() -> Result<(), String> {
     let plans = 4000;
     let stops = plan_selftest::run(plans)?;
@@ -26,6 +29,8 @@ pub fn selftest() -> Result<(), String> {
     let plans = 400;
     let [lots, draws] = lot_chance_selftest::run(plans)?;
     eprintln!("selftest passed: {plans} random plans with lots, {lots} by their {draws} draws");
+    let [lists, places] = stop_coverage::run()?;
+    eprintln!("selftest passed: {lists} lists for {places} places of stops meet them all");
     Ok(())
 }
 
