@@ -71,14 +71,14 @@ one-more x c = go x
         (rw (ne-eqb (suc (suc (suc y))) 0 (λ e. omega arith)) (omega arith))
         (rw (ne-eqb (suc (suc (suc y))) 2 (λ e. omega arith)) (omega arith))
 
--- one class more of a list
-pub record Turn (xs : List ℕ) (i : ℕ) : Type 0 where
+-- the class at i of a list
+pub record Next (xs : List ℕ) (i : ℕ) : Type 0 where
   pub nongood : nongood (counts (take (i + 1) xs)) ≡ nongood (counts (take i xs)) + boolByte (not (eqb (getD xs i 0) 0))
   pub bad : counts (take (i + 1) xs) .bad ≡ counts (take i xs) .bad + boolByte (eqb (getD xs i 0) 2)
   pub units : units (counts (take (i + 1) xs)) ≡ i + 1
 
-pub turn : (xs : List ℕ) (i : ℕ) → i < length xs → Turn xs i
-turn xs i h =
+pub next-class : (xs : List ℕ) (i : ℕ) → i < length xs → Next xs i
+next-class xs i h =
     let e = next-counts xs i h in
     let o = one-more (getD xs i 0) (counts (take i xs)) in
     record { nongood = ap nongood e ∙ o .nongood; bad = ap (λ (d : Counts). d .bad) e ∙ o .bad; units = units-to xs (i + 1) (omega arith) }
@@ -94,6 +94,7 @@ sums c (x ∷ xs) =
     let f = one-more x no-units in
     rw (counting .after-one c x xs, counting .after-one no-units x xs) (omega arith)
 
+-- so parts may be counted apart
 pub both-are : (c : Counts) (xs : List ℕ) → both-counts c (counts xs) ≡ counts-after c xs
 both-are c xs =
     let a = sums c xs in
