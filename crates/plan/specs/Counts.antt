@@ -1,4 +1,4 @@
--- Units by class: 0 good, 1 marginal, 2 bad. Document 01, "Plan".
+-- Units by class: 0 good, 1 marginal, 2 bad, and 3 blank, which counts as marginal. Document 01, "Plan"; document 02, change 4.
 use Prim.Native.Nat.{ℕ, zero, suc, _+_}
 use mathlib.Core.List.{List, [], _∷_}
 use Rattle.plan.specs.declared.counts.Counts.{Counts}

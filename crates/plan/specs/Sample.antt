@@ -16,7 +16,7 @@ use Rattle.plan.specs.Stopping.{at-end, first-answer}
 
 -- the highest class that a unit may have
 abbrev pub highest-class : ℕ
-highest-class = 2
+highest-class = 3
 
 -- each class is one that a unit may have
 unfoldable pub Classes : List ℕ → Type 0

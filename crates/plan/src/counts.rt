@@ -4,7 +4,7 @@ ghost use Prim.Native.Nat.{_+_, _≤_};
 ghost use Rattle.plan.specs.Counts.{units, no-units, add-units};
 
 // The highest class that a unit may have.
-pub const HIGHEST_CLASS: u32 = 2;
+pub const HIGHEST_CLASS: u32 = 3;
 
 pub struct Counts {
     pub good: u32,
