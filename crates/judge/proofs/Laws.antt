@@ -12,26 +12,28 @@ use Rattle.plan.specs.declared.counts.Counts.{Counts}
 use Rattle.plan.specs.declared.stage.Answer.{Answer}
 use Rattle.plan.specs.declared.stage.Answer.the-variants.{GoOn, Accept, Reject}
 use Rattle.plan.specs.declared.ways.StageWay.{StageWay}
-use Rattle.plan.specs.declared.ways.StageWay.the-variants.{Semi, Full}
+use Rattle.plan.specs.declared.ways.StageWay.the-variants.{Uncurtailed, Semi, Full}
 use Rattle.plan.specs.declared.ways.Way.{Way}
 use Rattle.plan.specs.declared.ways.Way.the-variants.{Staged, Earliest}
 use Rattle.plan.specs.Plan.{stages, admitted}
 use Rattle.plan.specs.Counts.{units, no-units, add-units, counts}
 use Rattle.plan.specs.Stopping.{staged, answer}
 use Rattle.plan.specs.Sample.{Classes, are-classes, Stops}
+use Rattle.plan.specs.Blanks.{as-marginal, blanks-as-marginal}
 use Rattle.plan.specs.Refusal.{Refusal, First}
 use Rattle.plan.specs.Reply.{refused}
 use Rattle.plan.specs.Promise.{staged-rule, One-stage}
 use Rattle.plan.proofs.Answers.{reject-stops}
 use Rattle.plan.proofs.Promise.{shape, one-stage, promise, ways}
 use Rattle.plan.proofs.Sample.{classing}
+use Rattle.plan.proofs.Blanks.{blank-laws}
 use Rattle.plan.proofs.Refusal.{first-refusals, refusal-law}
 use Rattle.judge.specs.declared.stop.Stop.{Stop}
 use Rattle.judge.specs.declared.list.Judged.{Judged}
 use Rattle.judge.specs.declared.list.Judged.the-variants.{Refused, Stops as Stopped-list}
 use Rattle.judge.specs.Event.{events, how-many}
 use Rattle.judge.specs.Judge.{first-stop, stop-of, refusals, judgement, judged, judge-reply}
-use Rattle.judge.specs.Laws.{at, rule-of, Refused-rightly, Granted-rightly, Stop-laws, Class-laws}
+use Rattle.judge.specs.Laws.{at, rule-of, Refused-rightly, Granted-rightly, Blanks-as-marginal, Stop-laws, Class-laws}
 use Rattle.judge.proofs.Along.{stop-within, next-counts}
 use Rattle.judge.proofs.Stops.{to-staged, from-staged, from-earliest, stop-is, is-stop, some, not-reached, stops}
 use Rattle.judge.proofs.Events.{accepted, rejected}
@@ -77,6 +79,31 @@ granted-rightly plan list j = (
     go true true e f g =
         let h : Stopped-list (judgement plan list) ≡ Stopped-list j = sym (first-refusals .grants _ Refused rows (Stopped-list (judgement plan list)) (ap not e, (ap not f, tt))) ∙ g in
         (e, f, cc)
+
+-- ---- blanks
+
+same-classes : (xs : List ℕ) → are-classes (blanks-as-marginal xs) ≡ are-classes xs
+same-classes [] = rw (blank-laws .none-as-marginal)
+same-classes (x ∷ xs) =
+    rw (blank-laws .more-as-marginal x xs, classing .more-tested (as-marginal x) (blanks-as-marginal xs), classing .more-tested x xs, blank-laws .tested-alike x, same-classes xs)
+
+same-stop : (rule : Counts → Answer) (c : Counts) (xs : List ℕ) → first-stop rule c (blanks-as-marginal xs) ≡ first-stop rule c xs
+same-stop rule c [] = rw (blank-laws .none-as-marginal)
+same-stop rule c (x ∷ xs) = rw (blank-laws .more-as-marginal x xs, blank-laws .added-alike x 1 c, same-stop rule (add-units x 1 c) xs)
+
+as-marginal-judged : (plan list : List ℕ) → judged plan (blanks-as-marginal list) ≡ judged plan list
+unfolding judged
+as-marginal-judged plan list =
+    rw (
+      same-classes list,
+      same-stop (answer (Staged Uncurtailed) (stages plan)) no-units list,
+      same-stop (answer (Staged Semi) (stages plan)) no-units list,
+      same-stop (answer (Staged Full) (stages plan)) no-units list,
+      same-stop (answer Earliest (stages plan)) no-units list,
+    )
+
+pub blanks-are-marginal : (plan list other : List ℕ) → Blanks-as-marginal plan list other
+blanks-are-marginal plan list other e = sym (as-marginal-judged plan list) ∙ ap (judged plan) e ∙ as-marginal-judged plan other
 
 -- ---- stops
 

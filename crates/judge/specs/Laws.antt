@@ -14,6 +14,7 @@ use Rattle.plan.specs.Plan.{stages, total, admitted}
 use Rattle.plan.specs.Counts.{units, counts}
 use Rattle.plan.specs.Stopping.{answer}
 use Rattle.plan.specs.Sample.{are-classes, All-have, Rule, Stops}
+use Rattle.plan.specs.Blanks.{blanks-as-marginal}
 use Rattle.plan.specs.Refusal.{Refused-by}
 use Rattle.plan.specs.Reply.{refused}
 use Rattle.judge.specs.declared.stop.Stop.{Stop}
@@ -38,6 +39,10 @@ Refused-rightly plan list = Refused-by refused (refusals plan list) (judge-reply
 abbrev pub Granted-rightly : List ℕ → List ℕ → Type 0
 Granted-rightly plan list = (j : Judgement) →
     (judged plan list ≡ Stopped-list j) ↔ ((admitted plan ≡ true) × (are-classes list ≡ true) × (j ≡ judgement plan list))
+
+-- lists that differ only in which of their marginal units are blank are judged alike, or refused alike. Document 02, change 4
+abbrev pub Blanks-as-marginal : List ℕ → List ℕ → List ℕ → Type 0
+Blanks-as-marginal plan list other = blanks-as-marginal list ≡ blanks-as-marginal other → judged plan list ≡ judged plan other
 
 -- of every admitted plan and every list
 pub record Stop-laws (plan list : List ℕ) : Type 0 where
