@@ -17,7 +17,7 @@ done-reply done.Ok = granted []
 done-reply (done.Refused n) = refused n
 
 abbrev pub look-reply : Looked → Reply
-look-reply (looked.Shown s) = granted (state (s .answer) ∷ s .units ∷ s .good ∷ s .marginal ∷ s .bad ∷ [])
+look-reply (looked.Shown s) = granted (state (s .answer) ∷ s .units ∷ s .good ∷ s .marginal ∷ s .bad ∷ s .blanks ∷ [])
 look-reply (looked.Refused n) = refused n
 
 abbrev pub tally-reply : Tallied → Reply

@@ -7,13 +7,14 @@ pub enum Done {
     Refused(u32),
 }
 
-// What a lot shows.
+// What a lot shows. The blanks are among the marginal units.
 pub struct Shown {
     pub answer: Answer,
     pub units: u32,
     pub good: u32,
     pub marginal: u32,
     pub bad: u32,
+    pub blanks: u32,
 }
 
 pub enum Looked {
