@@ -11,6 +11,7 @@ use lib.Dec.{ltb}
 use borrow.Author.Tests.{lt-ltb, le-ltb, eq-eqb, ne-eqb, leb-false}
 use Rattle.plan.specs.Plan.{stages, admitted}
 use Rattle.plan.specs.Counts.{counts, units}
+use Rattle.plan.specs.Blanks.{blanks}
 use Rattle.plan.specs.Stopping.{earliest}
 use Rattle.plan.specs.Refusal.{Refusal, First, None-applies}
 use Rattle.plan.proofs.Refusal.{first-append, first-after, none-append}
@@ -95,6 +96,9 @@ module _ (n : ℕ) (w : List ℕ) (f : Found) (k : With-lot n w f) where
 
   pub counts-are : f .counts ≡ counts (history (k .lot))
   counts-are = ap (λ (g : Found). g .counts) (k .is)
+
+  blanks-are : f .blanks ≡ blanks (history (k .lot))
+  blanks-are = ap (λ (g : Found). g .blanks) (k .is)
 
   units-are : units (f .counts) ≡ length (k .lot .inspections)
   units-are = ap units counts-are ∙ units-of (k .lot .inspections)
@@ -238,9 +242,9 @@ module _ (n : ℕ) (w : List ℕ) where
   unfolding look look-rows
   look-refused r e = refuses looked.Refused w _ w (look-rows n w) r (first-rows n w [] r e)
 
-  pub look-shown : (f : Found) (k : With-lot n w f) → look n w ≡ record { reply = looked.Shown (shown (earliest (stages (plan-words w)) (f .counts)) (f .counts)); words = w }
+  pub look-shown : (f : Found) (k : With-lot n w f) → look n w ≡ record { reply = looked.Shown (shown (earliest (stages (plan-words w)) (f .counts)) (f .counts) (f .blanks)); words = w }
   unfolding look look-rows
-  look-shown f k = grants looked.Refused w _ w (look-rows n w) (all-past-lot n w f k [] tt) ∙ rw (found-lot n w f k, counts-are n w f k)
+  look-shown f k = grants looked.Refused w _ w (look-rows n w) (all-past-lot n w f k [] tt) ∙ rw (found-lot n w f k, counts-are n w f k, blanks-are n w f k)
 
   pub tally-refused : (r : ℕ) → located n w [] ≡ Refused r → tally w ≡ record { reply = tallied.Refused r; words = w }
   unfolding tally tally-rows

@@ -11,6 +11,7 @@ use borrow.Author.Tests.{eq-eqb, ne-eqb}
 use Rattle.plan.specs.declared.counts.Counts.{Counts}
 use Rattle.plan.specs.Plan.{Stage, stages, total, admitted}
 use Rattle.plan.specs.Counts.{units, no-units, counts}
+use Rattle.plan.specs.Blanks.{blanks}
 use Rattle.plan.proofs.Promise.{promise}
 use Rattle.sheet.specs.declared.record.Record.{Record}
 use Rattle.sheet.specs.declared.chain.Chain.{Chain}
@@ -33,7 +34,7 @@ module _ (first : ℕ) (w : List ℕ) (lot : ℕ) where
   abbrev whole-chain : List Stage → ℕ → Chain
   whole-chain p at = chain-of (undecided-before p) (read-inspections first w lot (serial-at w at) at)
 
-  pub no-inspection : (p : List Stage) (at : ℕ) → at ≡ 0 → whole-chain p at ≡ Whole no-units
+  pub no-inspection : (p : List Stage) (at : ℕ) → at ≡ 0 → whole-chain p at ≡ Whole no-units 0
   unfolding serial-at
   no-inspection p at e = rw (eq-eqb at 0 e) (ended first w lot (undecided-before p) at e refl)
 
@@ -60,19 +61,19 @@ module _ (first : ℕ) (w : List ℕ) (lot : ℕ) where
         go none f = refl
         go (some is) f = decided (undecided-before (stages v) is) refl
           where
-            decided : (b : Bool) → undecided-before (stages v) is ≡ b → cond b (Whole (counts (classes is))) chain.Corrupt ≡ chain.Corrupt
+            decided : (b : Bool) → undecided-before (stages v) is ≡ b → cond b (Whole (counts (classes is)) (blanks (classes is))) chain.Corrupt ≡ chain.Corrupt
             decided true g =
                 let s = sound-inspections first w lot n at is f in
                 let h = is-history (stages v) first w (word w next-unused) lot at is (s .0) (fact (stages v) is g) in
                 absurd (omega (arith, promise v e .no-longer (classes is) h, length-classes is, s .1))
             decided false g = refl
 
-    pub chain-units : (n at : ℕ) (c : Counts) → chain-of (undecided-before (stages v)) (read-inspections first w lot n at) ≡ Whole c → units c ≤ total (stages v)
-    chain-units n at c f = go (decLt (total (stages v)) n)
+    pub chain-units : (n at : ℕ) (c : Counts) (k : ℕ) → chain-of (undecided-before (stages v)) (read-inspections first w lot n at) ≡ Whole c k → units c ≤ total (stages v)
+    chain-units n at c k f = go (decLt (total (stages v)) n)
       where
         go : Dec (total (stages v) < n) → units c ≤ total (stages v)
-        go (yes l) = let same : chain.Corrupt ≡ Whole c = sym (too-long n at l) ∙ f in absurd (let z : _≡_ {A = ℕ} 0 1 = cc in omega arith)
-        go (no l) = omega (arith, whole-units first w lot (undecided-before (stages v)) n at c f)
+        go (yes l) = let same : chain.Corrupt ≡ Whole c k = sym (too-long n at l) ∙ f in absurd (let z : _≡_ {A = ℕ} 0 1 = cc in omega arith)
+        go (no l) = omega (arith, whole-units first w lot (undecided-before (stages v)) n at c k f .0)
 
     -- the tests of the walk are enough
     pub by-tests : (n at : ℕ) → chain-of (tested (stages v) (n - 1)) (read-inspections first w lot n at) ≡ chain-of (undecided-before (stages v)) (read-inspections first w lot n at)
@@ -82,14 +83,14 @@ module _ (first : ℕ) (w : List ℕ) (lot : ℕ) where
         go none f = refl
         go (some is) f =
             let l : n ≡ length is = sound-inspections first w lot n at is f .1 in
-            ap (λ (b : Bool). cond b (Whole (counts (classes is))) chain.Corrupt) (ap (λ (k : ℕ). tested (stages v) (k - 1) is) l ∙ same-test v e is)
+            ap (λ (b : Bool). cond b (Whole (counts (classes is)) (blanks (classes is))) chain.Corrupt) (ap (λ (k : ℕ). tested (stages v) (k - 1) is) l ∙ same-test v e is)
 
 -- ---- the lots
 
 -- what the lots from here on give, where v is what the inspections of the first one gave
 abbrev pub after-chain : List Stage → ℕ → Found → ℕ → ℕ → Chain → Option (List Lot) → Surveyed
 after-chain p n f at number chain.Corrupt rest = Corrupt
-after-chain p n f at number (Whole c) rest = lots-survey p n (with-lot-found n f at number c) rest
+after-chain p n f at number (Whole c k) rest = lots-survey p n (with-lot-found n f at number c k) rest
 
 one-lot : (p : List Stage) (n : ℕ) (f : Found) (at number : ℕ) (o : Option (List Inspection)) (rest : Option (List Lot))
     → lots-survey p n f (then o (λ is. then rest (λ ls. some (record { at = at; number = number; inspections = is } ∷ ls)))) ≡ after-chain p n f at number (chain-of (undecided-before p) o) rest
@@ -97,7 +98,7 @@ one-lot p n f at number none rest = refl
 one-lot p n f at number (some is) rest = go (undecided-before p is) refl rest
   where
     go : (b : Bool) → undecided-before p is ≡ b → (r : Option (List Lot))
-        → lots-survey p n f (then r (λ ls. some (record { at = at; number = number; inspections = is } ∷ ls))) ≡ after-chain p n f at number (cond b (Whole (counts (classes is))) chain.Corrupt) r
+        → lots-survey p n f (then r (λ ls. some (record { at = at; number = number; inspections = is } ∷ ls))) ≡ after-chain p n f at number (cond b (Whole (counts (classes is)) (blanks (classes is))) chain.Corrupt) r
     go true e none = refl
     go false e none = refl
     go true e (some ls) = rw e

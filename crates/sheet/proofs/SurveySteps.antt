@@ -12,6 +12,7 @@ use lib.Dec.{eqb}
 use borrow.Author.Tests.{lt-ltb, le-ltb, eq-eqb, ne-eqb}
 use Rattle.plan.specs.Plan.{Stage, stages}
 use Rattle.plan.specs.Counts.{units, no-units, counts}
+use Rattle.plan.specs.Blanks.{blanks}
 use Rattle.sheet.specs.declared.chain.FreeChain.{FreeChain}
 use Rattle.sheet.specs.declared.chain.FreeChain.the-variants as free
 use Rattle.sheet.specs.declared.survey.Found.{Found}
@@ -29,7 +30,7 @@ use Rattle.sheetmodel.proofs.ForSheet.{units-of, sound-lots, find-above}
 
 -- with so many records used, and nothing else changed
 abbrev with-used : Found → ℕ → Found
-with-used f n = record { used = n; before = f .before; at = f .at; counts = f .counts }
+with-used f n = record { used = n; before = f .before; at = f .at; counts = f .counts; blanks = f .blanks }
 
 module _ (first : ℕ) (w : List ℕ) (hi n : ℕ) where
   -- past the number that is sought nothing more is found
@@ -44,37 +45,37 @@ module _ (first : ℕ) (w : List ℕ) (hi n : ℕ) where
 
   -- f, with the lot that is on the sheet
   abbrev with-lot : Found → Option Lot → ℕ → ℕ → Found
-  with-lot f none before used = record { used = used; before = before; at = f .at; counts = f .counts }
-  with-lot f (some l) before used = record { used = used; before = before; at = l .at; counts = counts (history l) }
+  with-lot f none before used = record { used = used; before = before; at = f .at; counts = f .counts; blanks = f .blanks }
+  with-lot f (some l) before used = record { used = used; before = before; at = l .at; counts = counts (history l); blanks = blanks (history l) }
 
-  same-lot : (f g : Found) (o : Option Lot) (before x y : ℕ) → x ≡ y → f .at ≡ g .at → f .counts ≡ g .counts → with-lot f o before x ≡ with-lot g o before y
-  same-lot f g none before x y e a c = cc
-  same-lot f g (some l) before x y e a c = ap (λ (u : ℕ). record { used = u; before = before; at = l .at; counts = counts (history l) }) e
+  same-lot : (f g : Found) (o : Option Lot) (before x y : ℕ) → x ≡ y → f .at ≡ g .at → f .counts ≡ g .counts → f .blanks ≡ g .blanks → with-lot f o before x ≡ with-lot g o before y
+  same-lot f g none before x y e a c k = cc
+  same-lot f g (some l) before x y e a c k = ap (λ (u : ℕ). record { used = u; before = before; at = l .at; counts = counts (history l); blanks = blanks (history l) }) e
 
   found-is : (f : Found) (ls : List Lot) (above at : ℕ) → Lots first w hi above ls at
       → found-from n f ls ≡ with-lot f (find n ls) (last-below n (f .before) ls) (f .used + records-of ls)
   found-is f [] above at h = ap (with-used f) (sym (add-zero (f .used)))
   found-is f (m ∷ ls) above at h =
       go (decLt (m .number) n) (decLt n (m .number))
-      (found-is (record { used = f .used + (1 + units (counts (history m))); before = m .at; at = f .at; counts = f .counts }) ls (m .number) _ (h .2))
+      (found-is (record { used = f .used + (1 + units (counts (history m))); before = m .at; at = f .at; counts = f .counts; blanks = f .blanks }) ls (m .number) _ (h .2))
     where
       sum : f .used + (1 + units (counts (history m))) + records-of ls ≡ f .used + (1 + length (m .inspections) + records-of ls)
       sum = omega (arith, units-of (m .inspections))
 
       go : Dec (m .number < n) → Dec (n < m .number)
-          → found-from n (record { used = f .used + (1 + units (counts (history m))); before = m .at; at = f .at; counts = f .counts }) ls
-          ≡ with-lot (record { used = f .used + (1 + units (counts (history m))); before = m .at; at = f .at; counts = f .counts }) (find n ls) (last-below n (m .at) ls) (f .used + (1 + units (counts (history m))) + records-of ls)
+          → found-from n (record { used = f .used + (1 + units (counts (history m))); before = m .at; at = f .at; counts = f .counts; blanks = f .blanks }) ls
+          ≡ with-lot (record { used = f .used + (1 + units (counts (history m))); before = m .at; at = f .at; counts = f .counts; blanks = f .blanks }) (find n ls) (last-below n (m .at) ls) (f .used + (1 + units (counts (history m))) + records-of ls)
           → found-from n f (m ∷ ls) ≡ with-lot f (find n (m ∷ ls)) (last-below n (f .before) (m ∷ ls)) (f .used + (1 + length (m .inspections) + records-of ls))
       go (yes l) d later =
           rw (lt-ltb (m .number) n l, ne-eqb n (m .number) (λ e. omega arith))
-          (later ∙ same-lot (record { used = f .used + (1 + units (counts (history m))); before = m .at; at = f .at; counts = f .counts }) f (find n ls) (last-below n (m .at) ls) _ _ sum refl refl)
+          (later ∙ same-lot (record { used = f .used + (1 + units (counts (history m))); before = m .at; at = f .at; counts = f .counts; blanks = f .blanks }) f (find n ls) (last-below n (m .at) ls) _ _ sum refl refl refl)
       go (no l) (yes k) later =
           rw (le-ltb (m .number) n (omega arith), ne-eqb n (m .number) (λ e. omega arith), find-above first w hi n (m .number) _ ls (omega arith) (h .2))
           (passed (with-used f (f .used + (1 + units (counts (history m))))) ls (m .number) _ (omega arith) (h .2) ∙ ap (with-used f) sum)
       go (no l) (no k) later =
           rw (le-ltb (m .number) n (omega arith), eq-eqb n (m .number) (omega arith))
-          (passed (record { used = f .used + (1 + units (counts (history m))); before = f .before; at = m .at; counts = counts (history m) }) ls (m .number) _ (omega arith) (h .2)
-          ∙ ap (λ (u : ℕ). record { used = u; before = f .before; at = m .at; counts = counts (history m) }) sum)
+          (passed (record { used = f .used + (1 + units (counts (history m))); before = f .before; at = m .at; counts = counts (history m); blanks = blanks (history m) }) ls (m .number) _ (omega arith) (h .2)
+          ∙ ap (λ (u : ℕ). record { used = u; before = f .before; at = m .at; counts = counts (history m); blanks = blanks (history m) }) sum)
 
 -- ---- the whole survey
 
@@ -94,8 +95,8 @@ module _ (first : ℕ) (w : List ℕ) (n : ℕ) where
   same-found ls h = found-is first w (word w next-unused) n nothing-found ls 0 (word w first-lot) h ∙ go (find n ls)
     where
       go : (o : Option Lot) → with-lot first w (word w next-unused) n nothing-found o (last-below n 0 ls) (0 + records-of ls) ≡ found n o (last-below n 0 ls) (records-of ls)
-      go none = ap (λ (u : ℕ). record { used = u; before = last-below n 0 ls; at = 0; counts = no-units }) (omega arith)
-      go (some l) = ap (λ (u : ℕ). record { used = u; before = last-below n 0 ls; at = l .at; counts = counts (history l) }) (omega arith)
+      go none = ap (λ (u : ℕ). record { used = u; before = last-below n 0 ls; at = 0; counts = no-units; blanks = 0 }) (omega arith)
+      go (some l) = ap (λ (u : ℕ). record { used = u; before = last-below n 0 ls; at = l .at; counts = counts (history l); blanks = blanks (history l) }) (omega arith)
 
   -- what was found stands if the records are counted
   found-one : (ls : List Lot) (js : List ℕ) (o : Option Lot) (x : Bool) → find n ls ≡ o → eqb (first + (records-of ls + length js)) (word w next-unused) ≡ x

@@ -1,5 +1,5 @@
 -- What the code's walks over a sheet find, by the definitions of Read.antt.
-use Prim.Native.Nat.{ℕ, zero, suc, _+_, _*_, _≤_}
+use Prim.Native.Nat.{ℕ, zero, suc, _+_, _-_, _*_, _≤_}
 use mathlib.Core.Bool.{Bool, true, cond, _&&_}
 use mathlib.Core.Option.{Option, none, some}
 use mathlib.Core.List.{List, [], _∷_}
@@ -8,6 +8,7 @@ use lib.Dec.{leb, ltb, eqb}
 use Rattle.plan.specs.declared.counts.Counts.{Counts}
 use Rattle.plan.specs.Plan.{Stage, end-below}
 use Rattle.plan.specs.Counts.{no-units, units, add-units, counts}
+use Rattle.plan.specs.Blanks.{one-blank, blanks}
 use Rattle.plan.specs.Stopping.{earliest}
 use Rattle.sheet.specs.declared.record.Record.{Record}
 use Rattle.sheet.specs.declared.chain.Chain.{Chain}
@@ -66,10 +67,26 @@ abbrev pub tested : List Stage → ℕ → List Inspection → Bool
 tested p test [] = true
 tested p test (i ∷ is) = may-go-on p test (length is) (counts (classes is)) && tested p (next-test p test (length is)) is
 
--- the units of the chain that was read, if the test holds of it
+-- the units and the blanks of the chain that was read, if the test holds of it
 abbrev pub chain-of : (List Inspection → Bool) → Option (List Inspection) → Chain
 chain-of test none = chain.Corrupt
-chain-of test (some is) = cond (test is) (chain.Whole (counts (classes is))) chain.Corrupt
+chain-of test (some is) = cond (test is) (chain.Whole (counts (classes is)) (blanks (classes is))) chain.Corrupt
+
+-- n units by three sums over their classes: of the classes x, of x / 2 and of x / 3. A class adds to them
+-- good 0, 0, 0, marginal 1, 0, 0, bad 2, 1, 0 and blank 3, 1, 1
+abbrev pub by-sums : ℕ → ℕ → ℕ → ℕ → Counts
+by-sums n sum halves thirds = record {
+  good = n + halves + thirds - sum;
+  marginal = sum - 2 * halves;
+  bad = halves - thirds;
+}
+
+-- such sums over n classes up to 3: no count is below 0
+pub record Sums-fit (n sum halves thirds : ℕ) : Type 0 where
+  pub marginal : 2 * halves ≤ sum
+  pub bad : thirds ≤ halves
+  pub good : sum ≤ n + halves + thirds
+  pub most : sum ≤ 3 * n
 
 -- the units of older and of newer inspections
 abbrev pub all-units : Counts → Counts → Counts
@@ -78,28 +95,32 @@ all-units c d = record { good = c .good + d .good; marginal = c .marginal + d .m
 -- a chain that is whole only if it is undecided
 abbrev pub if-undecided : List Stage → Chain → Chain
 if-undecided p chain.Corrupt = chain.Corrupt
-if-undecided p (chain.Whole c) = cond (undecided (earliest p c)) (chain.Whole c) chain.Corrupt
+if-undecided p (chain.Whole c k) = cond (undecided (earliest p c)) (chain.Whole c k) chain.Corrupt
 
--- a chain with newer inspections of the units d
-abbrev pub with-newer : Counts → Chain → Chain
-with-newer d chain.Corrupt = chain.Corrupt
-with-newer d (chain.Whole c) = chain.Whole (all-units c d)
+-- a chain with newer inspections of the units d, of which j are blanks
+abbrev pub with-newer : Counts → ℕ → Chain → Chain
+with-newer d j chain.Corrupt = chain.Corrupt
+with-newer d j (chain.Whole c k) = chain.Whole (all-units c d) (k + j)
 
 -- newer inspections, and the older ones after them, of which there are `test`: these are tested, and so are those at the stage ends below
 abbrev pub with-older : List Stage → ℕ → List ℕ → ℕ → ℕ → Part → Chain
 with-older p first w lot test part.Corrupt = chain.Corrupt
-with-older p first w lot test (part.Whole c next) =
-    with-newer c (if-undecided p (chain-of (tested p (end-below 0 p test)) (read-inspections first w lot test next)))
+with-older p first w lot test (part.Whole c k next) =
+    with-newer c k (if-undecided p (chain-of (tested p (end-below 0 p test)) (read-inspections first w lot test next)))
 
--- k inspections from the record `at` on, newer than the `stop` oldest ones; their units are added to c
-unfoldable pub newer-part : ℕ → List ℕ → ℕ → ℕ → ℕ → ℕ → Counts → Part
-newer-part first w lot stop zero at c = part.Whole c at
-newer-part first w lot stop (suc k) at c =
-    cond (is-inspection first w lot (stop + suc k) at) (newer-part first w lot stop k (next w at) (add-units (field w at 0) 1 c)) part.Corrupt
+-- n inspections from the record `at` on, newer than the `stop` oldest ones; their units are added to c, their blanks to k
+unfoldable pub newer-part : ℕ → List ℕ → ℕ → ℕ → ℕ → ℕ → Counts → ℕ → Part
+newer-part first w lot stop zero at c k = part.Whole c k at
+newer-part first w lot stop (suc n) at c k =
+    cond (is-inspection first w lot (stop + suc n) at) (newer-part first w lot stop n (next w at) (add-units (field w at 0) 1 c) (k + one-blank (field w at 0))) part.Corrupt
 
 abbrev pub part-units : Part → Counts
 part-units part.Corrupt = no-units
-part-units (part.Whole c next) = c
+part-units (part.Whole c k next) = c
+
+abbrev pub part-blanks : Part → ℕ
+part-blanks part.Corrupt = 0
+part-blanks (part.Whole c k next) = k
 
 -- ---- the free records: as many as were read
 
@@ -109,21 +130,22 @@ free-of (some js) = free.Whole (length js)
 
 -- ---- the lots
 
--- what is found so far, with the lot in the record `at`, of this number and these units, more; n is the number looked for
-abbrev pub with-lot-found : ℕ → Found → ℕ → ℕ → Counts → Found
-with-lot-found n f at number c = record {
+-- what is found so far, with the lot in the record `at`, of this number, units and blanks, more; n is the number looked for
+abbrev pub with-lot-found : ℕ → Found → ℕ → ℕ → Counts → ℕ → Found
+with-lot-found n f at number c k = record {
   used = f .used + (1 + units c);
   before = cond (ltb number n) at (f .before);
   at = cond (eqb n number) at (f .at);
   counts = cond (eqb n number) c (f .counts);
+  blanks = cond (eqb n number) k (f .blanks);
 }
 
 abbrev pub found-from : ℕ → Found → List Lot → Found
 found-from n f [] = f
-found-from n f (l ∷ ls) = found-from n (with-lot-found n f (l .at) (l .number) (counts (history l))) ls
+found-from n f (l ∷ ls) = found-from n (with-lot-found n f (l .at) (l .number) (counts (history l)) (blanks (history l))) ls
 
 abbrev pub nothing-found : Found
-nothing-found = record { used = 0; before = 0; at = 0; counts = no-units }
+nothing-found = record { used = 0; before = 0; at = 0; counts = no-units; blanks = 0 }
 
 abbrev pub lots-survey : List Stage → ℕ → Found → Option (List Lot) → Surveyed
 lots-survey p n f none = survey.Corrupt
@@ -131,10 +153,10 @@ lots-survey p n f (some ls) = cond (all-undecided-before p ls) (survey.Intact (f
 
 -- ---- the sheet
 
--- the lot of a number: its record, the record before it, and its units; record 0 and no units where it is not on the sheet
+-- the lot of a number: its record, the record before it, its units and blanks; record 0 and no units where it is not on the sheet
 abbrev pub found : ℕ → Option Lot → ℕ → ℕ → Found
-found n none before used = record { used = used; before = before; at = 0; counts = no-units }
-found n (some l) before used = record { used = used; before = before; at = l .at; counts = counts (history l) }
+found n none before used = record { used = used; before = before; at = 0; counts = no-units; blanks = 0 }
+found n (some l) before used = record { used = used; before = before; at = l .at; counts = counts (history l); blanks = blanks (history l) }
 
 abbrev pub survey-of : ℕ → Option Contents → Surveyed
 survey-of n none = survey.Corrupt

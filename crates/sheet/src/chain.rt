@@ -11,23 +11,23 @@ ghost use mathlib.Core.Path.{_≡_};
 ghost use mathlib.Core.Bool.{true};
 ghost use Prim.Native.Nat.{_+_, _-_, _≤_, _<_};
 ghost use Rattle.plan.specs.Plan.{stages, total, admitted, end-below};
-ghost use Rattle.plan.specs.Counts.{units, no-units, add-units};
-ghost use Rattle.plan.specs.Sample.{highest-class};
+ghost use Rattle.plan.specs.Counts.{units, no-units};
 ghost use Rattle.sheetmodel.specs.Layout.{first-free, word};
 ghost use Rattle.sheetmodel.specs.Read.{in-use, serial-at, depth, read-inspections, read-free, undecided-before};
 ghost use Rattle.sheetmodel.specs.Rows.{is-some};
 ghost use Rattle.sheet.specs.Survey.{Sized, is-inspection, is-free, tested, chain-of, all-units, newer-part, free-of};
 
-// A chain of inspections: damaged, or whole, with its units.
+// A chain of inspections: damaged, or whole, with its units and the blanks among them.
 pub enum Chain {
     Corrupt,
-    Whole(Counts),
+    Whole(Counts, u32),
 }
 
-// The newer inspections of a chain: damaged, or whole, with their units and the record after them.
+// The newer inspections of a chain: damaged, or whole, with their units, the blanks among them and
+// the record after them.
 pub enum Part {
     Corrupt,
-    Whole(Counts, u32),
+    Whole(Counts, u32, u32),
 }
 
 // The chain of free records: damaged, or whole, with their number.
@@ -65,19 +65,6 @@ fn is_inspection(sheet: &[u32], first: u32, lot: u32, serial: u32, at: u32) -> b
     r.tag == serial
 }
 
-// One unit more, of a class up to 2. Classes come in no order, so that a branch on them is often
-// predicted wrongly: here are none, unlike in plan::add_units.
-fn with_unit(class: u32, c: Counts) -> Counts
-    requires { ⌜ (class ≤ highest-class) × (units c ≤ 1000) ⌝ }
-    ensures { λ r. ⌜ r ≡ add-units class 1 c ⌝ }
-{
-    Counts {
-        good: c.good + (2 - class) / 2,
-        marginal: c.marginal + class % 2,
-        bad: c.bad + class / 2,
-    }
-}
-
 // The units of older and of newer inspections.
 fn all_units(older: Counts, newer: Counts) -> Counts
     requires { ⌜ units older + units newer ≤ 4294967295 ⌝ }
@@ -91,24 +78,37 @@ fn all_units(older: Counts, newer: Counts) -> Counts
 }
 
 // The inspections of a lot from the record `at` on, whose serials fall from `serial` to `stop` + 1: the
-// units and the record after them. The `stop` older ones are then left to be tested.
+// units, the blanks and the record after them. The `stop` older ones are then left to be tested.
+// Classes come in no order, so that a branch on them is often predicted wrongly. Three sums need none:
+// of the classes, of their halves (1 for a bad or blank unit) and of their thirds (1 for a blank).
 fn newer_part(sheet: &[u32], first: u32, lot: u32, serial: u32, at: u32, stop: u32) -> Part
     requires { ⌜ Sized (now sheet) × (serial ≤ 1000) × (stop < serial) ⌝ }
-    ensures { λ r. ⌜ r ≡ newer-part first (now (sheet .entry)) lot stop (serial - stop) at no-units ⌝ }
+    ensures { λ r. ⌜ r ≡ newer-part first (now (sheet .entry)) lot stop (serial - stop) at no-units 0 ⌝ }
 {
     let mut left = serial;
     let mut next = at;
-    let mut c = plan::no_units();
+    let mut sum: u32 = 0;
+    let mut halves: u32 = 0;
+    let mut blanks: u32 = 0;
     while stop < left {
         if !is_inspection(sheet, first, lot, left, next) {
             return Part::Corrupt;
         }
         let r = record_at(sheet, next);
-        c = with_unit(r.value, c);
+        sum += r.value;
+        halves += r.value / 2;
+        blanks += r.value / 3;
         next = r.next;
         left -= 1;
     }
-    Part::Whole(c, next)
+    let marginal = sum - 2 * halves;
+    let bad = halves - blanks;
+    let c = Counts {
+        good: serial - stop - marginal - bad,
+        marginal: marginal,
+        bad: bad,
+    };
+    Part::Whole(c, blanks, next)
 }
 
 // The inspections of a lot from the record `at` on, whose serials fall from `serial` to 1. The units of
@@ -128,22 +128,22 @@ fn inspections(
 {
     match newer_part(sheet, first, lot, serial, at, test) {
         Part::Corrupt => Chain::Corrupt,
-        Part::Whole(newer, next) => {
+        Part::Whole(newer, blanks, next) => {
             // before the first unit every lot is undecided
             if test == 0 {
                 if next == 0 {
-                    return Chain::Whole(newer);
+                    return Chain::Whole(newer, blanks);
                 }
                 return Chain::Corrupt;
             }
             let below = plan::end_below(plan, 0, test);
             match inspections(sheet, first, plan, lot, test, next, below) {
                 Chain::Corrupt => Chain::Corrupt,
-                Chain::Whole(older) => {
+                Chain::Whole(older, older_blanks) => {
                     if !is_undecided(plan::earliest(plan, older)) {
                         return Chain::Corrupt;
                     }
-                    Chain::Whole(all_units(older, newer))
+                    Chain::Whole(all_units(older, newer), older_blanks + blanks)
                 }
             }
         }
@@ -158,9 +158,9 @@ fn whole_chain(sheet: &[u32], first: u32, plan: &[u32], lot: u32, serial: u32, a
 {
     match newer_part(sheet, first, lot, serial, at, 0) {
         Part::Corrupt => Chain::Corrupt,
-        Part::Whole(c, next) => {
+        Part::Whole(c, blanks, next) => {
             if next == 0 {
-                return Chain::Whole(c);
+                return Chain::Whole(c, blanks);
             }
             Chain::Corrupt
         }
@@ -183,13 +183,13 @@ fn in_first_stage(
 {
     match newer_part(sheet, first, lot, serial, at, test) {
         Part::Corrupt => Chain::Corrupt,
-        Part::Whole(newer, next) => match whole_chain(sheet, first, plan, lot, test, next) {
+        Part::Whole(newer, blanks, next) => match whole_chain(sheet, first, plan, lot, test, next) {
             Chain::Corrupt => Chain::Corrupt,
-            Chain::Whole(older) => {
+            Chain::Whole(older, older_blanks) => {
                 if !is_undecided(plan::earliest(plan, older)) {
                     return Chain::Corrupt;
                 }
-                Chain::Whole(all_units(older, newer))
+                Chain::Whole(all_units(older, newer), older_blanks + blanks)
             }
         },
     }
@@ -209,7 +209,7 @@ pub fn lot_inspections(
     ensures { λ r. ⌜ r ≡ chain-of (undecided-before (stages (now (plan .entry)))) (read-inspections first (now (sheet .entry)) lot (serial-at (now (sheet .entry)) newest) newest) ⌝ }
 {
     if newest == 0 {
-        return Chain::Whole(plan::no_units());
+        return Chain::Whole(plan::no_units(), 0);
     }
     if !is_used(sheet, first, newest) {
         return Chain::Corrupt;

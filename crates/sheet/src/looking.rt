@@ -26,6 +26,7 @@ pub fn look(sheet: &[u32], lot: u32) -> Looked
             good: f.counts.good,
             marginal: f.counts.marginal,
             bad: f.counts.bad,
+            blanks: f.blanks,
         }),
     }
 }

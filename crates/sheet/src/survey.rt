@@ -23,13 +23,14 @@ ghost use Rattle.sheetmodel.specs.Layout.{least-size, greatest-size, next-unuse
 ghost use Rattle.sheetmodel.specs.Read.{read-from, read-lots};
 ghost use Rattle.sheet.specs.Survey.{Sized, is-lot, with-lot-found, nothing-found, lots-survey, survey-of};
 
-// What is found for a lot's number: its record and its units, 0 and none where it is not on the sheet;
-// the record before it, whose next lot it is or would be; and the records that all lots and their
-// inspections use.
+// What is found for a lot's number: its record, its units and the blanks among them, 0 and none where
+// it is not on the sheet; the record before it, whose next lot it is or would be; and the records that
+// all lots and their inspections use.
 pub struct Found {
     pub used: u32,
     pub before: u32,
     pub at: u32,
+    pub blanks: u32,
     pub counts: Counts,
 }
 
@@ -53,10 +54,10 @@ fn is_lot(sheet: &[u32], first: u32, above: u32, at: u32) -> bool
     r.tag == 0
 }
 
-// What is found so far, with the lot in the record `at`, of this number and these units, more.
-fn with_lot_found(sought: u32, f: Found, at: u32, number: u32, c: Counts) -> Found
+// What is found so far, with the lot in the record `at`, of this number, units and blanks, more.
+fn with_lot_found(sought: u32, f: Found, at: u32, number: u32, c: Counts, blanks: u32) -> Found
     requires { ⌜ (units c ≤ 1000) × (f .used + (1 + units c) ≤ 4294967295) ⌝ }
-    ensures { λ r. ⌜ r ≡ with-lot-found sought f at number c ⌝ }
+    ensures { λ r. ⌜ r ≡ with-lot-found sought f at number c blanks ⌝ }
 {
     let used = f.used + (1 + plan::units(c));
     let mut next = f;
@@ -68,6 +69,7 @@ fn with_lot_found(sought: u32, f: Found, at: u32, number: u32, c: Counts) -> Fou
     if sought == number {
         next.at = at;
         next.counts = c;
+        next.blanks = blanks;
     }
     next
 }
@@ -82,6 +84,7 @@ fn lots(sheet: &[u32], first: u32, plan: &[u32], sought: u32) -> Surveyed
         used: 0,
         before: 0,
         at: 0,
+        blanks: 0,
         counts: plan::no_units(),
     };
     let mut left = record_count(sheet);
@@ -99,8 +102,8 @@ fn lots(sheet: &[u32], first: u32, plan: &[u32], sought: u32) -> Surveyed
             Chain::Corrupt => {
                 return Surveyed::Corrupt;
             }
-            Chain::Whole(c) => {
-                f = with_lot_found(sought, f, at, r.value, c);
+            Chain::Whole(c, blanks) => {
+                f = with_lot_found(sought, f, at, r.value, c, blanks);
                 above = r.value;
                 at = r.next;
                 left -= 1;

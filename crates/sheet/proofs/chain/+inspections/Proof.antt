@@ -56,17 +56,18 @@ module _ (t : ℕ) where
   newer-passed : (c : Newer) →
       let a = c .before .before .before .before .before .before .args in
       chain-of (tested (stages (a .plan .now)) (a .test)) (read-inspections (a .first) (a .sheet .now) (a .lot) (a .serial) (a .at)) ≡
-      with-older (stages (a .plan .now)) (a .first) (a .sheet .now) (a .lot) (a .test) (part.Whole (c .before .newer .given .0 .0) (c .before .newer .given .0 .1 .0))
+      with-older (stages (a .plan .now)) (a .first) (a .sheet .now) (a .lot) (a .test) (part.Whole (c .before .newer .given .0 .0) (c .before .newer .given .0 .1 .0) (c .before .newer .given .0 .1 .1 .0))
   newer-passed c =
       let a = c .before .before .before .before .before .before .args in
       newer-chain (a .first) (a .sheet .now) (a .lot) (stages (a .plan .now)) (a .test) (a .serial) (a .at) (c .before .before .before .before .before .before .pre .1 .3) _
       (sym (c .before .newer .given .1) ∙ c .before .before .before .newer-part .ensures)
 
-  newer-units : (c : Newer) → units (c .before .newer .given .0 .0) ≤ 1000
+  newer-units : (c : Newer) → (units (c .before .newer .given .0 .0) ≤ 1000) × (c .before .newer .given .0 .1 .0 ≤ 1000)
   newer-units c =
       let s = c .before .before .before .before .before .before in
       let a = s .args in
-      omega (arith, s .pre .1 .2, units-of-newer (a .first) (a .sheet .now) (a .lot) (a .test) (a .serial) (a .at) (c .before .newer .given .0 .0) _ (sym (c .before .newer .given .1) ∙ c .before .before .before .newer-part .ensures))
+      let few = units-of-newer (a .first) (a .sheet .now) (a .lot) (a .test) (a .serial) (a .at) (c .before .newer .given .0 .0) (c .before .newer .given .0 .1 .0) _ (sym (c .before .newer .given .1) ∙ c .before .before .before .newer-part .ensures) in
+      (omega (arith, s .pre .1 .2, few .0), omega (arith, s .pre .1 .2, few .1))
 
   returns : lts.Need-returns (calls t) (given t) inspections.Post
   returns c =
@@ -75,13 +76,13 @@ module _ (t : ℕ) where
       let a = s .args in
       sym
       (newer-passed n
-      ∙ none-older (a .first) (a .sheet .now) (a .lot) (stages (a .plan .now)) (a .test) _ _ (promise (a .plan .now) (s .pre .1 .1) .empty) (c .before .if1 .taken) (c .if2 .taken))
+      ∙ none-older (a .first) (a .sheet .now) (a .lot) (stages (a .plan .now)) (a .test) _ _ _ (promise (a .plan .now) (s .pre .1 .1) .empty) (c .before .if1 .taken) (c .if2 .taken))
 
   returns-2 : lts.Need-returns-2 (calls t) (given t) inspections.Post
   returns-2 c =
       let n = c .before .before in
       let a = n .before .before .before .before .before .before .args in
-      sym (newer-passed n ∙ not-none-older (a .first) (a .sheet .now) (a .lot) (stages (a .plan .now)) (a .test) _ _ (c .before .if1 .taken) (c .if2 .left))
+      sym (newer-passed n ∙ not-none-older (a .first) (a .sheet .now) (a .lot) (stages (a .plan .now)) (a .test) _ _ _ (c .before .if1 .taken) (c .if2 .left))
 
   end-below-requires : lts.Need-end-below-requires (calls t) (given t) inspections.Post
   end-below-requires c κs =
@@ -101,32 +102,29 @@ module _ (t : ℕ) where
       let n = c .before .before .before .before .before .before in
       let a = n .before .before .before .before .before .before .args in
       chain-of (tested (stages (a .plan .now)) (a .test)) (read-inspections (a .first) (a .sheet .now) (a .lot) (a .serial) (a .at)) ≡
-      with-newer (n .before .newer .given .0 .0) (if-undecided (stages (a .plan .now)) (Whole (c .before .older .given .0 .0)))
+      with-newer (n .before .newer .given .0 .0) (n .before .newer .given .0 .1 .0) (if-undecided (stages (a .plan .now)) (Whole (c .before .older .given .0 .0) (c .before .older .given .0 .1 .0)))
   older-passed c =
       let n = c .before .before .before .before .before .before in
       let a = n .before .before .before .before .before .before .args in
       let e = c .before .before .before .before .end-below in
       newer-passed n
-      ∙ older-by (a .first) (a .sheet .now) (a .lot) (stages (a .plan .now)) (a .test) _ _ (e .result) (e .ensures) (Whole (c .before .older .given .0 .0))
+      ∙ older-by (a .first) (a .sheet .now) (a .lot) (stages (a .plan .now)) (a .test) _ _ _ (e .result) (e .ensures) (Whole (c .before .older .given .0 .0) (c .before .older .given .0 .1 .0))
       (sym (c .before .older .given .1) ∙ c .before .before .before .inspections .ensures)
 
-  older-units : (c : Older) → units (c .before .older .given .0 .0) ≤ 1000
+  older-units : (c : Older) → (units (c .before .older .given .0 .0) ≤ 1000) × (c .before .older .given .0 .1 .0 ≤ 1000)
   older-units c =
       let n = c .before .before .before .before .before .before in
       let s = n .before .before .before .before .before .before in
       let a = s .args in
-      omega (
-        arith,
-        s .pre .1 .2,
-        s .pre .1 .3,
-        whole-units (a .first) (a .sheet .now) (a .lot) (tested (stages (a .plan .now)) (c .before .before .before .before .end-below .result)) (a .test) (n .before .newer .given .0 .1 .0)
-            (c .before .older .given .0 .0) (sym (c .before .before .before .inspections .ensures) ∙ c .before .older .given .1),
-      )
+      let few =
+      whole-units (a .first) (a .sheet .now) (a .lot) (tested (stages (a .plan .now)) (c .before .before .before .before .end-below .result)) (a .test) (n .before .newer .given .0 .1 .1 .0)
+      (c .before .older .given .0 .0) (c .before .older .given .0 .1 .0) (sym (c .before .before .before .inspections .ensures) ∙ c .before .older .given .1) in
+      (omega (arith, s .pre .1 .2, s .pre .1 .3, few .0), omega (arith, s .pre .1 .2, s .pre .1 .3, few .1))
 
   earliest-requires : lts.Need-earliest-requires (calls t) (given t) inspections.Post
   earliest-requires c κs =
       let s = c .before .before .before .before .before .before .before .before .before .before .before .before in
-      (shape (s .args .plan .now) (s .pre .1 .1) .thousand-units, older-units c)
+      (shape (s .args .plan .now) (s .pre .1 .1) .thousand-units, older-units c .0)
 
   returns-3 : lts.Need-returns-3 (calls t) (given t) inspections.Post
   returns-3 c =
@@ -135,7 +133,12 @@ module _ (t : ℕ) where
   all-units-requires : lts.Need-all-units-requires (calls t) (given t) inspections.Post
   all-units-requires c κs =
       let o = c .before .before .before in
-      omega (arith, older-units o, newer-units (o .before .before .before .before .before .before))
+      omega (arith, older-units o .0, newer-units (o .before .before .before .before .before .before) .0)
+
+  blanks-fit : lts.Need-add-t24 (calls t) (given t) inspections.Post
+  blanks-fit c =
+      let o = c .before .before .before .before in
+      omega (arith, older-units o .1, newer-units (o .before .before .before .before .before .before) .1)
 
   returns-4 : lts.Need-returns-4 (calls t) (given t) inspections.Post
   returns-4 c =
@@ -150,7 +153,7 @@ module _ (t : ℕ) where
       let e = c .before .before .before .end-below in
       sym
       (newer-passed n
-      ∙ older-by (a .first) (a .sheet .now) (a .lot) (stages (a .plan .now)) (a .test) _ _ (e .result) (e .ensures) Corrupt
+      ∙ older-by (a .first) (a .sheet .now) (a .lot) (stages (a .plan .now)) (a .test) _ _ _ (e .result) (e .ensures) Corrupt
       (sym (c .enum-told2 .given .1) ∙ c .before .before .inspections .ensures))
 
   returns-6 : lts.Need-returns-6 (calls t) (given t) inspections.Post
@@ -174,6 +177,7 @@ pub +inspections-spec : {M : Type 1} → statement M
     (λ c κs. search needs)
     (returns-3 t)
     (all-units-requires t)
+    (blanks-fit t)
     (returns-4 t)
     (returns-5 t)
     (returns-6 t)

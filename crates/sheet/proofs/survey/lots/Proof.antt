@@ -78,7 +78,7 @@ lot-units c =
     omega (
       arith,
       shape (s .args .plan .now) (s .pre .1) .thousand-units,
-      chain-units (s .args .first) (s .args .sheet .now) (l .at) (s .args .plan .now) (s .pre .1) (serial-at (s .args .sheet .now) (r .link)) (r .link) (c .before .c .given .0 .0) (sym (c .before .before .before .lot-inspections .ensures) ∙ c .before .c .given .1),
+      chain-units (s .args .first) (s .args .sheet .now) (l .at) (s .args .plan .now) (s .pre .1) (serial-at (s .args .sheet .now) (r .link)) (r .link) (c .before .c .given .0 .0) (c .before .c .given .0 .1 .0) (sym (c .before .before .before .lot-inspections .ensures) ∙ c .before .c .given .1),
     )
 
 with-lot-found-requires : tie.Need-with-lot-found-requires Inv-loop μ-loop
@@ -95,7 +95,7 @@ loop-again c =
     let w = c .before .before .c .given in
     let u = ap (λ (f : Found). f .used) (c .with-lot-found .ensures) in
     let next = next-lot (a .first) (a .sheet .now) (stages (a .plan .now)) (a .sought) (l .f) (l .left) (l .above) (l .at) (d .before .before .before .loop-test .taken) (d .before .before .if1 .left)
-    (sym (d .before .is-lot .ensures) ∙ not-false _ (d .if2 .left)) (r .result) (r .ensures) (Whole (w .0 .0)) (sym (w .1) ∙ c .before .before .before .before .lot-inspections .ensures) in
+    (sym (d .before .is-lot .ensures) ∙ not-false _ (d .if2 .left)) (r .result) (r .ensures) (Whole (w .0 .0) (w .0 .1 .0)) (sym (w .1) ∙ c .before .before .before .before .lot-inspections .ensures) in
     (omega arith, omega (arith, lot-units (c .before)), l .inv .2 ∙ next ∙ rw (c .with-lot-found .ensures))
 
 returns-4 : tie.Need-returns-4 Inv-loop μ-loop
