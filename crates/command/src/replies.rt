@@ -12,7 +12,7 @@ ghost use Rattle.commandmodel.specs.Printed.{longest-reply, state-word, reply-l
 ghost use Rattle.command.specs.Written.{written};
 
 // The most bytes that a reply has.
-pub const LONGEST_REPLY: usize = 64;
+pub const LONGEST_REPLY: usize = 65;
 
 // Prints a line with a word and numbers. The result is the number of its bytes.
 fn put_line(out: &mut [u8], word: &[u8], numbers: &[u32]) -> usize
@@ -49,7 +49,7 @@ pub fn put_done(out: &mut [u8], done: Done) -> usize
 
 // The state's word, and the numbers.
 fn put_shown(out: &mut [u8], answer: Answer, numbers: &[u32]) -> usize
-    requires { ⌜ (longest-reply ≤ length (now out)) × (length (now numbers) ≡ 4) ⌝ }
+    requires { ⌜ (longest-reply ≤ length (now out)) × (length (now numbers) ≡ 5) ⌝ }
     ensures { λ r. ⌜ r ≡ length (reply-line (state-word answer) (now (numbers .entry))) ⌝ }
     ensures { λ _. ⌜ now (out .exit) ≡ written (now (out .entry)) 0 (reply-line (state-word answer) (now (numbers .entry))) ⌝ }
 {
@@ -68,7 +68,7 @@ pub fn put_look(out: &mut [u8], looked: Looked) -> usize
     match looked {
         Looked::Refused(n) => put_refusal(out, n),
         Looked::Shown(s) => {
-            let numbers = [s.units, s.good, s.marginal, s.bad];
+            let numbers = [s.units, s.good, s.marginal, s.bad, s.blanks];
             let answer = s.answer;
             put_shown(out, answer, &numbers)
         }

@@ -59,7 +59,7 @@ state-length Accept = omega arith
 state-length Reject = omega arith
 
 look-length : (l : Looked) → length (look-printed l) ≤ longest-reply
-look-length (looked.Shown s) = omega (arith, state-length (s .answer), line-length (state-word (s .answer)) (s .units ∷ s .good ∷ s .marginal ∷ s .bad ∷ []))
+look-length (looked.Shown s) = omega (arith, state-length (s .answer), line-length (state-word (s .answer)) (s .units ∷ s .good ∷ s .marginal ∷ s .bad ∷ s .blanks ∷ []))
 look-length (looked.Refused n) = refusal-length n
 
 tally-length : (t : Tallied) → length (tally-printed t) ≤ longest-reply

@@ -46,7 +46,7 @@ end-of-line = 10
 
 -- no reply has more bytes
 abbrev pub longest-reply : ℕ
-longest-reply = 64
+longest-reply = 65
 
 unfoldable pub reply-line : List ℕ → List ℕ → List ℕ
 reply-line word ns = word ++ (spaced ns ++ (end-of-line ∷ []))
@@ -59,7 +59,7 @@ done-printed done.Ok = reply-line ok-word []
 done-printed (done.Refused n) = refusal n
 
 abbrev pub look-printed : Looked → List ℕ
-look-printed (looked.Shown s) = reply-line (state-word (s .answer)) (s .units ∷ s .good ∷ s .marginal ∷ s .bad ∷ [])
+look-printed (looked.Shown s) = reply-line (state-word (s .answer)) (s .units ∷ s .good ∷ s .marginal ∷ s .bad ∷ s .blanks ∷ [])
 look-printed (looked.Refused n) = refusal n
 
 abbrev pub tally-printed : Tallied → List ℕ
