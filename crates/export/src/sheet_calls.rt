@@ -58,9 +58,9 @@ pub extern "C" fn haq_close(sheet: &mut [u32], lot: u32) -> u32
     number_of(sheet::close(sheet, lot))
 }
 
-// Out: state, units, good, marginal, bad.
+// Out: state, units, good, marginal, bad, and the blanks among the marginal.
 #[no_mangle]
-pub extern "C" fn haq_look(sheet: &[u32], lot: u32, out: &mut [u32; 5]) -> u32
+pub extern "C" fn haq_look(sheet: &[u32], lot: u32, out: &mut [u32; 6]) -> u32
     ensures { λ r. ⌜ r ≡ number (look-reply (look lot (now (sheet .entry)) .reply)) ⌝ }
     ensures { λ _. ⌜ now (out .exit) ≡ left (look-reply (look lot (now (sheet .entry)) .reply)) (now (out .entry)) ⌝ }
 {
@@ -68,7 +68,14 @@ pub extern "C" fn haq_look(sheet: &[u32], lot: u32, out: &mut [u32; 5]) -> u32
         Looked::Refused(n) => n,
         Looked::Shown(s) => {
             let answer = s.answer;
-            *out = [plan::state(answer), s.units, s.good, s.marginal, s.bad];
+            *out = [
+                plan::state(answer),
+                s.units,
+                s.good,
+                s.marginal,
+                s.bad,
+                s.blanks,
+            ];
             0
         }
     }

@@ -36,6 +36,7 @@ pub fn looked(reply: Looked) {
             number(s.good as u64);
             number(s.marginal as u64);
             number(s.bad as u64);
+            number(s.blanks as u64);
         }
         Looked::Refused(n) => refused(n),
     }
