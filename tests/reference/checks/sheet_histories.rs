@@ -5,6 +5,7 @@
 use crate::generators::draw;
 use crate::generators::random::Random;
 use crate::lines::sheet_lines::Write;
+use crate::model::class::HIGHEST;
 use crate::model::earliest::by_completions;
 use crate::model::layout::{records, room, FIRST_RECORD};
 use crate::model::plan::Plan;
@@ -77,7 +78,7 @@ impl Histories {
 
     fn inspect(&mut self, lot: u32, class: u32) -> Reply<()> {
         let history = self.history(lot)?;
-        if class > 2 {
+        if class > u32::from(HIGHEST) {
             return Err(7);
         }
         if self.state(history) != 0 {
@@ -111,7 +112,9 @@ impl Histories {
     fn look(&self, lot: u32) -> Reply<Vec<u64>> {
         let history = self.history(lot)?;
         let state = u64::from(self.state(history));
-        Ok([&[state, history.len() as u64], &counts(history)[..]].concat())
+        let units = history.len() as u64;
+        let blanks = of_class(history, 3);
+        Ok([&[state, units], &counts(history)[..], &[blanks]].concat())
     }
 
     fn estimate(&self, lot: u32) -> Reply<Vec<u64>> {
@@ -127,8 +130,14 @@ impl Histories {
     }
 }
 
+fn of_class(history: &[u8], class: u8) -> u64 {
+    history.iter().filter(|&&it| it == class).count() as u64
+}
+
+/// Good, marginal and bad; a blank is within marginal (02, change 4).
 fn counts(history: &[u8]) -> [u64; 3] {
-    [0, 1, 2].map(|class| history.iter().filter(|&&it| it == class).count() as u64)
+    let [good, marginal, bad, blanks] = [0, 1, 2, 3].map(|class| of_class(history, class));
+    [good, marginal + blanks, bad]
 }
 
 const LENGTHS: [usize; 6] = [room(1), room(3), room(5) + 3, room(9), room(14), room(24)];

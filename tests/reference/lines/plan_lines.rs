@@ -3,7 +3,7 @@
 //! - `a` and plan words: `admitted` or `no 2` (01 "Plan", "Refused").
 //! - `j`, a dot with the classes of a list as digits, and plan words: stop and
 //!   state of uncurtailed, semi, full and earliest and the event, or `no 2`, or
-//!   `no 7` for a class above 2 anywhere (01 "Lists, events, estimates").
+//!   `no 7` for a class above 3 anywhere (01 "Lists, events, estimates"; 02, change 4).
 //! - `c`, three weights, the words of scratch and plan words: low and high in
 //!   units of 2^-40, or `no 2`, `no 13`, `no 14` (01 "Chance of acceptance").
 //! - `f` and the same fields: the bit patterns of the chart's two floats, or the

@@ -1,5 +1,6 @@
 //! A sheet as its chains have it; torn ones have none (01 "Sheet").
 
+use super::class::HIGHEST;
 use super::earliest::{Stop, Table};
 use super::layout::*;
 use super::plan::{Counts, Plan, BOTH, MOST_STAGES, MOST_UNITS, STAGE_WORDS};
@@ -63,14 +64,6 @@ impl Lot {
     pub fn state(&self) -> u8 {
         self.stop.map_or(0, |(_, state)| state)
     }
-
-    pub fn count(&self, class: u8) -> u32 {
-        count(&self.classes, class)
-    }
-}
-
-pub fn count(classes: &[u8], class: u8) -> u32 {
-    classes.iter().filter(|&&it| it == class).count() as u32
 }
 
 /// A sheet that is not torn, as its chains have it.
@@ -141,7 +134,8 @@ fn free_chain(words: &[u32]) -> Option<Vec<u32>> {
 
 fn read_lot(words: &[u32], judging: &Judging, record: u32) -> Option<Lot> {
     let inspections = chain(words, word(words, record, NEWEST))?;
-    let of_lot = |&at: &u32| word(words, at, CLASS) <= 2 && word(words, at, LOT) == record;
+    let of_lot =
+        |&at: &u32| word(words, at, CLASS) <= u32::from(HIGHEST) && word(words, at, LOT) == record;
     let number = word(words, record, NUMBER);
     let rules = number != 0 && word(words, record, ZERO_OF_LOT) == 0;
     if !rules || !inspections.iter().all(of_lot) || !falls_to_one(words, &inspections, SERIAL) {

@@ -56,7 +56,8 @@ pub fn bounds_by(plan: &Plan, table: &Table, weights: impl Fn(usize, Counts) -> 
     })
 }
 
-/// N of 01 by writing out the sequences: those that begin with the sample.
+/// N of 01 by writing out the sequences: those that begin with the sample. They have
+/// classes 0, 1 and 2 alone, as weights do (02, change 4).
 pub fn accepted_sum(plan: &Plan, weights: Weights, sample: &mut Vec<u8>) -> u128 {
     if sample.len() == plan.units() {
         return u128::from(plan.uncurtailed(sample) == ACCEPTED);

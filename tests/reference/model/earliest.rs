@@ -2,6 +2,7 @@
 //! units have one uncurtailed verdict. It is found in two ways: by writing out
 //! all completions, and by a table of the verdicts that can still be reached.
 
+use super::class::HIGHEST;
 use super::plan::{Counts, Plan, ACCEPTED, BAD, BOTH, NONGOOD, REJECTED};
 
 /// Units and state at a stop; None if no stop is reached on the list.
@@ -40,15 +41,18 @@ pub fn by_both(plan: &Plan, table: &Table, list: &[u8]) -> Stop {
     })
 }
 
-/// Whether 3^(S - y) samples of S units are few enough to be written out: all
-/// y for S up to 10, only the last ones for a larger S.
+/// The number of classes.
+const CLASSES: usize = HIGHEST as usize + 1;
+
+/// Whether `CLASSES`^(S - y) samples of S units are few enough to be written out:
+/// all y for S up to 8, only the last ones for a larger S.
 pub fn few_completions(units: usize, y: usize) -> bool {
     let rest = units - y;
-    rest <= 10 && 3_usize.pow(rest as u32) * units <= 600_000
+    rest <= 10 && CLASSES.pow(rest as u32) * units <= 600_000
 }
 
-/// The set of uncurtailed verdicts of all completions of a prefix. Once both
-/// verdicts are found no further completion can add to it.
+/// The set of uncurtailed verdicts of all completions of a prefix, those with blanks
+/// too (02, change 4). Once both verdicts are found no further completion can add to it.
 fn verdicts_of_completions(plan: &Plan, prefix: &[u8]) -> u8 {
     let mut sample = prefix.to_vec();
     sample.resize(plan.units(), 0);
@@ -59,10 +63,10 @@ fn verdicts_of_completions(plan: &Plan, prefix: &[u8]) -> u8 {
     verdicts
 }
 
-/// Counts up in base 3; false after the last completion.
+/// Counts up in base `CLASSES`; false after the last completion.
 fn next_completion(rest: &mut [u8]) -> bool {
     for class in rest.iter_mut().rev() {
-        if *class < 2 {
+        if *class < HIGHEST {
             *class += 1;
             return true;
         }
@@ -114,7 +118,7 @@ impl Table {
     }
 
     fn after_one_more(&self, y: usize, counts: Counts) -> u8 {
-        let each = (0..3).map(|class| self.at(y + 1, counts.after(class)));
+        let each = (0..=HIGHEST).map(|class| self.at(y + 1, counts.after(class)));
         each.fold(0, |verdicts, more| verdicts | more)
     }
 

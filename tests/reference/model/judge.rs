@@ -1,6 +1,7 @@
 //! 01 "Four ways to stop" and "Lists, events, estimates": a list judged four
 //! ways, and the event.
 
+use super::class;
 use super::earliest::{by_both, Stop, Table};
 use super::plan::{Counts, Plan, Stage, ACCEPTED, BAD, NONGOOD, REJECTED};
 
@@ -100,8 +101,7 @@ fn event(plan: &Plan, list: &[u8], full: Stop) -> u8 {
 
 /// The six cases in 01's order, with G1 = n - r1 + 1 and G2 = n - r2 + 1.
 fn cases(stage: &Stage, units: &[u8]) -> [bool; 6] {
-    let count = |class: u8| units.iter().filter(|&&unit| unit == class).count() as i64;
-    let (good, marginal, bad) = (count(0), count(1), count(2));
+    let [good, marginal, bad] = class::counts(units).map(i64::from);
     let [n, r1, r2] = [stage.size, stage.r[NONGOOD], stage.r[BAD]].map(|word| word as i64);
     let (g1, g2) = (n - r1 + 1, n - r2 + 1);
     let (nonbad, nongood) = (good + marginal, marginal + bad);

@@ -1,6 +1,6 @@
-//! What 01 says, and changes 1 and 2 of 02.
+//! What 01 says, and changes 1, 2 and 4 of 02. Change 3 is about time alone.
 //!
-//! - "Plan", "Four ways to stop": plan, earliest, judge.
+//! - "Plan", "Four ways to stop": class, plan, earliest, judge.
 //! - "Lists, events, estimates", "Chance of acceptance": judge, chance,
 //!   lot_chance (02, change 2), and plan_calls, which has their refusals.
 //! - "Sheet": layout, chains, sheet, and sheet_call, a call as a value.
@@ -8,6 +8,7 @@
 
 pub mod chains;
 pub mod chance;
+pub mod class;
 pub mod earliest;
 pub mod judge;
 pub mod layout;

@@ -1,6 +1,8 @@
 //! 01 "Plan": which plans are admitted. 01 "Four ways to stop": uncurtailed.
 //! 02, change 1: stages at which acceptance is not permitted, called marked.
 
+use super::class::{self, is_nongood};
+
 /// The two rows of a plan, as indices of `Stage::a` and `Stage::r`.
 pub const NONGOOD: usize = 0;
 pub const BAD: usize = 1;
@@ -52,11 +54,10 @@ impl Counts {
             .fold(none, |counts, &class| counts.after(class))
     }
 
-    /// Nongood is class 1 or 2, bad is class 2 (01 "Plan").
     pub fn after(self, class: u8) -> Counts {
         Counts {
-            nongood: self.nongood + u64::from(class == 1 || class == 2),
-            bad: self.bad + u64::from(class == 2),
+            nongood: self.nongood + u64::from(is_nongood(class)),
+            bad: self.bad + u64::from(class == class::BAD),
         }
     }
 }

@@ -3,6 +3,7 @@
 //! precedes 14 (02, change 2).
 
 use super::chance::{self, Bounds, Weights, MOST_WEIGHT};
+use super::class::HIGHEST;
 use super::earliest::Table;
 use super::judge::{judge, Judgement};
 use super::lot_chance::{self, Lot, MOST_UNITS_OF_LOT};
@@ -33,7 +34,7 @@ pub struct PlanCalls {
 impl PlanCalls {
     pub fn judge(&mut self, list: &[u8], words: &[u32]) -> Reply<Judgement> {
         let (plan, table) = self.plan(words).ok_or(2_u32)?;
-        if list.iter().any(|&class| class > 2) {
+        if list.iter().any(|&class| class > HIGHEST) {
             return Err(7);
         }
         Ok(judge(plan, table, list))

@@ -1,7 +1,8 @@
 //! The calls on a sheet (01 "Sheet"): fresh, open, inspect, strike, close, look,
 //! tally, and the estimate of 01 "Lists, events, estimates".
 
-use super::chains::{count, intact, word, Chains, Plans};
+use super::chains::{intact, word, Chains, Plans};
+use super::class::{blanks, counts, HIGHEST};
 use super::layout::*;
 use super::plan::STAGE_WORDS;
 use super::Reply;
@@ -104,7 +105,7 @@ impl Sheet {
     pub fn inspect(&mut self, number: u32, class: u32) -> Reply<()> {
         let chains = self.chains()?;
         let lot = chains.lot(number).ok_or(6_u32)?;
-        if class > 2 {
+        if class > u32::from(HIGHEST) {
             return Err(7);
         }
         if lot.stop.is_some() {
@@ -137,8 +138,9 @@ impl Sheet {
             return Err(12);
         }
         self.words[CLOSED_LOTS + state - 1] += 1;
-        for class in 0..3 {
-            self.words[CLOSED_UNITS + usize::from(class)] += lot.count(class);
+        let closed = &mut self.words[CLOSED_UNITS..TOTALS_END];
+        for (total, units) in closed.iter_mut().zip(counts(&lot.classes)) {
+            *total += units;
         }
         let link = self.link_to(&chains, number);
         self.words[link] = word(&self.words, lot.record, NEXT);
@@ -147,16 +149,15 @@ impl Sheet {
         Ok(())
     }
 
-    /// State, units, good, marginal, bad.
+    /// State, units, good, marginal, bad, and the blanks within marginal.
     pub fn look(&mut self, number: u32) -> Reply<Vec<u32>> {
         let chains = self.chains()?;
         let lot = chains.lot(number).ok_or(6_u32)?;
         let units = lot.classes.len() as u32;
-        let counts = (0..3).map(|class| lot.count(class));
-        Ok([u32::from(lot.state()), units]
-            .into_iter()
-            .chain(counts)
-            .collect())
+        let [good, marginal, bad] = counts(&lot.classes);
+        let blanks = blanks(&lot.classes);
+        let state = u32::from(lot.state());
+        Ok(vec![state, units, good, marginal, bad, blanks])
     }
 
     /// Accepted lots, rejected lots, good, marginal, bad.
@@ -176,7 +177,7 @@ impl Sheet {
             return Err(15);
         }
         let before = &lot.classes[..lot.classes.len() - 1];
-        let counts = (0..3).map(|class| count(before, class));
-        Ok(counts.chain([before.len() as u32]).collect())
+        let [good, marginal, bad] = counts(before);
+        Ok(vec![good, marginal, bad, before.len() as u32])
     }
 }
