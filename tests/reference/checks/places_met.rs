@@ -3,6 +3,7 @@
 
 use crate::generators::stop_places::PART;
 use crate::lines::plan_lines::Case;
+use crate::model::class::HIGHEST;
 use crate::model::earliest::Stop;
 use crate::model::plan::{Counts, Plan, Stage, BAD, NONGOOD, REJECTED};
 use crate::model::plan_calls::PlanCalls;
@@ -15,7 +16,7 @@ pub const WAYS: [&str; 4] = ["uncurtailed", "semi", "full", "earliest"];
 /// What a way does, by its state.
 pub const DOES: [&str; 3] = ["goes on", "accepts", "rejects"];
 
-/// Places of a class above 2.
+/// Places of a class above the highest.
 pub const REFUSED_AT: [&str; 4] = [
     "last in the list",
     "after S units",
@@ -45,8 +46,9 @@ pub fn met(lines: &[String]) -> Result<Places, String> {
     };
     for (list, words) in cases {
         let plan = Plan::admitted(&words).ok_or(format!("{words:?} should be admitted"))?;
-        // A refused list is read up to the class above 2, which is to be behind full's stop.
-        let read = list.iter().position(|&class| class > 2);
+        // A refused list is read up to the class that is too high, which is to be behind
+        // full's stop.
+        let read = list.iter().position(|&class| class > HIGHEST);
         let read = read.unwrap_or(list.len());
         let stops = match calls.judge(&list[..read], &words) {
             Ok(judgement) => judgement.stops,
@@ -190,7 +192,7 @@ impl Met {
         }
     }
 
-    /// Where the class above 2 stands that has the list refused.
+    /// Where the class above the highest stands that has the list refused.
     fn refusal(&mut self, list: &[u8], plan: &Plan, at: usize) {
         let class = list[at];
         let holds = [

@@ -162,7 +162,7 @@ fn single_classes() -> Places {
         wanted.extend([1, 2].map(|class| format!("class {class} at unit {unit} rejects")));
     }
     for place in REFUSED_AT {
-        wanted.extend([3, 9].map(|class| format!("class {class} refused, {place}")));
+        wanted.extend([4, 9].map(|class| format!("class {class} refused, {place}")));
     }
     wanted
 }

@@ -249,7 +249,7 @@ pub fn sheet_call(random: &mut Random, mix: [u32; 3]) -> SheetCall {
     let lot = if random.one_in(40) { 0 } else { lot };
     let class = u32::from(random.class(mix));
     let class = if random.one_in(40) {
-        random.pick(&[3, 256, u32::MAX])
+        random.pick(&[4, 256, u32::MAX])
     } else {
         class
     };

@@ -148,7 +148,7 @@ fn refusals(script: &mut Vec<u8>) {
     for plan in [PLAN_A, PLAN_B] {
         line(script, plan);
         for text in [
-            "o 0", "o 3", "o 3", "o 2", "i 4 0", "i 4 3", "i 3 3", "s 3", "s 4", "l 4", "c 4",
+            "o 0", "o 3", "o 3", "o 2", "i 4 0", "i 4 4", "i 3 4", "s 3", "s 4", "l 4", "c 4",
             "c 3", "i 0 0", "l 0",
         ] {
             line(script, text);
@@ -158,7 +158,7 @@ fn refusals(script: &mut Vec<u8>) {
             line(script, "l 3");
         }
         for text in [
-            "i 3 3", "s 3", "l 3", "c 3", "i 3 0", "c 3", "t", "i 2 2", "i 2 2", "i 2 2", "l 2",
+            "i 3 4", "s 3", "l 3", "c 3", "i 3 0", "c 3", "t", "i 2 2", "i 2 2", "i 2 2", "l 2",
             "c 2", "t",
         ] {
             line(script, text);
@@ -215,7 +215,7 @@ fn random_lines(script: &mut Vec<u8>, random: &mut Random, lines: usize) {
             3 => format!("c {lot}"),
             4 | 5 => format!("l {lot}"),
             6 => "t".to_string(),
-            _ => format!("i {lot} {}", random.between(0, 3)),
+            _ => format!("i {lot} {}", random.pick(&[0, 1, 2, 4])),
         };
         line(script, &text);
     }

@@ -65,9 +65,9 @@ impl Cases {
                 self.judged(&list, &kept);
             }
         }
-        self.judged(&[0, 3], &marked_edges()[0].broken());
-        self.judged(&[0, 3], INSIDE);
-        self.judged(&[0, 0, 0, 3], INSIDE);
+        self.judged(&[0, 4], &marked_edges()[0].broken());
+        self.judged(&[0, 4], INSIDE);
+        self.judged(&[0, 0, 0, 4], INSIDE);
     }
 
     fn marked_lists(&mut self) {

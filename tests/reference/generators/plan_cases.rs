@@ -234,13 +234,13 @@ impl Cases {
         }
     }
 
-    /// Classes above 2 at the first place, at and past the stops, and past S.
+    /// Classes above 3 at the first place, at and past the stops, and past S.
     fn refused_classes(&mut self) {
         for words in [A, B, ONE, SEVEN] {
             let plan = Plan::admitted(words).expect("the hand-written plans are admitted");
             let units = plan.units();
             for place in [0, 1, units - 1, units, units + 2] {
-                for class in [3, 9] {
+                for class in [4, 9] {
                     let mut list = vec![0; units + 3];
                     list[place] = class;
                     self.judged(&list, words);
@@ -248,8 +248,8 @@ impl Cases {
                 }
             }
         }
-        self.judged(&[3], &A[..4]);
-        self.judged(&[0, 3], &[5, 2, 3, 1, 3]);
+        self.judged(&[4], &A[..4]);
+        self.judged(&[0, 4], &[5, 2, 3, 1, 3]);
     }
 
     /// Any words, mostly whole stages.

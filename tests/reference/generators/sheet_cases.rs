@@ -169,7 +169,7 @@ impl Script {
 
     fn calls_on_lots(&mut self) {
         for lot in [0, 2, 6, 4] {
-            self.line(&format!("i {lot} 3"));
+            self.line(&format!("i {lot} 4"));
             self.line(&format!("i {lot} 1"));
             for call in ["e", "l", "s", "c", "o"] {
                 self.line(&format!("{call} {lot}"));

@@ -3,6 +3,7 @@
 
 use super::hand_written::{A, B, TWO, UNIT};
 use super::sheet_script::Script;
+use crate::model::class::HIGHEST;
 use crate::model::layout::*;
 use crate::model::plan::STAGE_WORDS;
 
@@ -43,6 +44,14 @@ const KS: &[u32] = &[
     u32::MAX,
 ];
 
+/// Whether this is the class of an inspection: word 3 of a lot is 0, that of a free
+/// record is the tag, and that of an unused one is 0 on these sheets.
+fn is_class(words: &[u32], index: usize) -> bool {
+    let serial = index - index % RECORD_WORDS + SERIAL;
+    let of_record = (HEAD..place(words[NEXT_UNUSED], 0)).contains(&index);
+    of_record && index % RECORD_WORDS == CLASS && ![0, FREE].contains(&words[serial])
+}
+
 impl Script {
     pub fn damage(&mut self) {
         for plan in [A, TWO] {
@@ -64,7 +73,8 @@ impl Script {
         self.lines("o 7, i 7 2, i 7 2, s 7, i 4 0, s 4, s 7");
     }
 
-    /// Each word with values next to its own, and with ones out of all limits.
+    /// Each word with values next to its own, and with ones out of all limits. Those of a
+    /// class are to tear the sheet, so the highest class becomes the one above it.
     fn each_word(&mut self) {
         let before = self.words().to_vec();
         for (index, &word) in before.iter().enumerate() {
@@ -74,6 +84,11 @@ impl Script {
             let mut values = [&near[..], &[u32::MAX, far]].concat();
             values.retain(|&value| value != word);
             values.dedup();
+            if is_class(&before, index) {
+                let highest = u32::from(HIGHEST);
+                let found = values.iter_mut().filter(|value| **value == highest);
+                found.for_each(|value| *value = highest + 1);
+            }
             for value in values {
                 self.put(index, value);
                 self.damaged(&before, index);
@@ -85,7 +100,7 @@ impl Script {
     /// Tally, and now and then a call that would write.
     fn damaged(&mut self, before: &[u32], index: usize) {
         let torn = self.line("t").starts_with("no 3");
-        let call = ["o 6", "i 9 0", "s 5", "c 3", "l 5", "i 3 3", "s 9"][index % 7];
+        let call = ["o 6", "i 9 0", "s 5", "c 3", "l 5", "i 3 4", "s 9"][index % 7];
         if torn || before.len() - index < 3 {
             self.line(call);
         } else {
@@ -172,7 +187,7 @@ impl Script {
     fn other_classes(&mut self) {
         self.fresh(room(10), 0, A);
         self.lines("o 8, i 8 1, i 8 0, i 8 1, i 8 0, l 8");
-        for class in [0, 1, 2, 3, u32::MAX] {
+        for class in [0, 1, 2, 4, u32::MAX] {
             for record in 1..=4 {
                 let index = place(FIRST_RECORD + record, CLASS);
                 let old = self.words()[index];
@@ -240,7 +255,7 @@ impl Script {
     /// stopped, and a chain through the last record, which is not whole.
     pub fn not_by_a_count(&mut self) {
         self.fresh(room(5), 0, A);
-        self.lines("o 3, i 3 0, o 5, i 5 0, p @1.0 3, p @3.0 3, t, l 3, l 5");
+        self.lines("o 3, i 3 0, o 5, i 5 0, p @1.0 4, p @3.0 4, t, l 3, l 5");
         self.fresh(room(5), 0, A);
         self.lines("o 5, p @0.2 @0, t, l 5, i 5 0");
         self.fresh(room(5), 0, &[2, 0, 1, 0, 1]);

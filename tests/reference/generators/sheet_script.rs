@@ -60,11 +60,11 @@ impl Script {
 
     /// Each call, with numbers that break rules of 01 "Refused" too.
     pub fn each_call(&mut self, lot: u32) {
-        self.lines("t, o 0, i 0 3");
+        self.lines("t, o 0, i 0 4");
         for call in ["l", "s", "e", "c", "o", "l"] {
             self.line(&format!("{call} {lot}"));
         }
-        self.line(&format!("i {lot} 3"));
+        self.line(&format!("i {lot} 4"));
         self.line(&format!("i {lot} 0"));
     }
 

@@ -178,7 +178,7 @@ impl Cases {
         self.judged(&vec![2; 1000], LARGEST[1]);
     }
 
-    /// Classes above 2 at ends of runs, just after S units, and last, behind every stop.
+    /// Classes above 3 at ends of runs, just after S units, and last, behind every stop.
     fn refused_behind_stops(&mut self) {
         let words = rejecting(449);
         for (turn, unit) in [2, 224, 225, 448, 449, 450, 672, 673]
@@ -186,11 +186,11 @@ impl Cases {
             .enumerate()
         {
             let mut list = rejected_at(1, 449, 673, true);
-            list[unit - 1] = [3, 9][turn % 2];
+            list[unit - 1] = [4, 9][turn % 2];
             self.judged(&list, &words);
             self.judged(&list[..unit], &words);
         }
-        for (length, class) in [(1001, 3), (1001, 9), (2000, 3), (2000, 9), (4000, 3)] {
+        for (length, class) in [(1001, 4), (1001, 9), (2000, 4), (2000, 9), (4000, 4)] {
             self.judged(&list_with(length, class, &[length]), LARGEST[0]);
         }
     }
