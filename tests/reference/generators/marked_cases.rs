@@ -29,22 +29,22 @@ impl Cases {
 
     /// Every list of the smallest plans, and the lists of the published one.
     fn marked_by_hand(&mut self) {
-        self.every_list(&mut vec![], INSIDE);
-        self.every_list(&mut vec![], FIRST_UNIT);
-        self.every_list(&mut vec![], EITHER_UNIT);
+        for words in [INSIDE, FIRST_UNIT, EITHER_UNIT] {
+            self.every_list(&mut vec![], words, 2);
+        }
         for (list, _) in published_judged() {
             self.judged(&list, PUBLISHED);
         }
     }
 
-    /// The lists that begin with this one, up to S units.
-    fn every_list(&mut self, list: &mut Vec<u8>, words: &[u32]) {
+    /// The lists that begin with this one, up to S units, of classes up to the highest.
+    pub fn every_list(&mut self, list: &mut Vec<u8>, words: &[u32], highest: u8) {
         self.judged(list, words);
         let units: u32 = words.iter().step_by(5).sum();
         if list.len() < units as usize {
-            for class in 0..3 {
+            for class in 0..=highest {
                 list.push(class);
-                self.every_list(list, words);
+                self.every_list(list, words, highest);
                 list.pop();
             }
         }

@@ -6,7 +6,11 @@
 //! - Made of these: plan_cases, marked_cases and lot_cases; sheet_cases, sheet_damage
 //!   and marked_sheets, by sheet_script; full_sheets; lots_script.
 //! - Listed place by place: stop_places, stop_stages, sooner_stops.
+//! - With blanks: blanks, which makes them; blank_lists, blank_stops.
 
+pub mod blank_lists;
+pub mod blank_stops;
+pub mod blanks;
 pub mod draw;
 pub mod full_sheets;
 pub mod hand_written;

@@ -1,6 +1,7 @@
 //! The seeded cases on plans: hand-written edges, then random plans with their lists and
 //! chances. marked_cases.rs has those with marked stages, lot_cases.rs those on lots of
-//! known size, stop_places.rs those with stops at given places.
+//! known size, stop_places.rs those with stops at given places, blank_lists.rs those with
+//! blanks.
 
 use super::hand_written::{runs, A, B, LARGEST, ONE, SEVEN, THREE, TWO, UNIT, WEIGHTS, WRAPS};
 use super::known_lots::{CHANCES, KNOWN, NEAR_A, NEAR_B};
@@ -33,6 +34,8 @@ pub fn all() -> Vec<String> {
     cases.marked_plans();
     cases.sized_lots();
     cases.stop_places();
+    cases.blank_lists();
+    cases.blank_stops();
     let mut seen = HashSet::new();
     cases.lines.retain(|line| seen.insert(line.clone()));
     cases.lines
@@ -42,6 +45,14 @@ pub fn all() -> Vec<String> {
 pub fn stop_places() -> Vec<String> {
     let mut cases = Cases::none();
     cases.stop_places();
+    cases.lines
+}
+
+/// The lines with blanks alone.
+pub fn blanks() -> Vec<String> {
+    let mut cases = Cases::none();
+    cases.blank_lists();
+    cases.blank_stops();
     cases.lines
 }
 

@@ -40,13 +40,13 @@ pub fn list_with(length: usize, class: u8, units: &[usize]) -> Vec<u8> {
 }
 
 /// One bad unit rejects, three nongood ones do, as far as there are so many.
-fn rejecting(n: usize) -> Vec<u32> {
+pub fn rejecting(n: usize) -> Vec<u32> {
     let r1 = n.min(3) as u32;
     vec![n as u32, r1 - 1, r1, 0, 1]
 }
 
 /// At most three bad and five nongood units are accepted; none where n is too small.
-fn accepting(n: usize) -> Vec<u32> {
+pub fn accepting(n: usize) -> Vec<u32> {
     match n {
         0..=5 => vec![n as u32, 0, 1, 0, 1],
         _ => vec![n as u32, 5, 6, 3, 4],

@@ -178,6 +178,14 @@ fn cases_in_second_stage() -> Vec<StopCase> {
     cases
 }
 
+/// Those that marginal units decide: plan and list.
+pub fn marginal_cases() -> Vec<(Vec<u32>, Vec<u8>)> {
+    let mut cases = cases_in_stages();
+    cases.extend(cases_in_second_stage());
+    let marginal = cases.into_iter().filter(|case| case.list.contains(&1));
+    marginal.map(|case| (case.words, case.list)).collect()
+}
+
 impl Cases {
     /// Each list to the end of its stage or past it; every fifth one also cut around its
     /// stop, or one before the stage's end.
