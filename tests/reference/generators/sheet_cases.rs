@@ -1,6 +1,6 @@
 //! The seeded lists of commands on sheets: hand-written ones, then random ones.
 //! sheet_damage.rs has those that damage a sheet between two calls, marked_sheets.rs
-//! those with marked stages.
+//! those with marked stages, blank_sheets.rs and blank_refusals.rs those with blanks.
 
 use super::draw;
 use super::hand_written::{runs, A, B, LARGEST, ONE, SEVEN, THREE, TWO, UNIT, WRAPS};
@@ -80,6 +80,16 @@ pub fn all() -> Vec<String> {
     script.past_the_first_stage();
     script.not_by_a_count();
     script.marked_plans();
+    script.blank_sheets();
+    script.blank_refusals();
+    script.finish()
+}
+
+/// The lines with blanks alone.
+pub fn blanks() -> Vec<String> {
+    let mut script = Script::new(SEED);
+    script.blank_sheets();
+    script.blank_refusals();
     script.finish()
 }
 

@@ -46,7 +46,7 @@ const KS: &[u32] = &[
 
 /// Whether this is the class of an inspection: word 3 of a lot is 0, that of a free
 /// record is the tag, and that of an unused one is 0 on these sheets.
-fn is_class(words: &[u32], index: usize) -> bool {
+pub fn is_class(words: &[u32], index: usize) -> bool {
     let serial = index - index % RECORD_WORDS + SERIAL;
     let of_record = (HEAD..place(words[NEXT_UNUSED], 0)).contains(&index);
     of_record && index % RECORD_WORDS == CLASS && ![0, FREE].contains(&words[serial])
@@ -67,7 +67,7 @@ impl Script {
 
     /// Lots 3, 5 and 9, decided and not, two to four free records, unused ones
     /// and two words after the last whole record.
-    fn with_all_records(&mut self, plan: &[u32]) {
+    pub fn with_all_records(&mut self, plan: &[u32]) {
         self.fresh(room(13) + 2, 0, plan);
         self.lines("o 3, i 3 0, o 5, i 5 1, o 9, i 3 1, i 5 2, i 3 2, i 5 0, o 4, i 9 2, s 9, s 3");
         self.lines("o 7, i 7 2, i 7 2, s 7, i 4 0, s 4, s 7");
