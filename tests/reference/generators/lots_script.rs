@@ -1,8 +1,9 @@
 //! A script for the program `lots`: the listing of 01, each bad form of a line,
 //! each refusal that the program can give, a sheet filled and emptied, random lines,
-//! many short lines with longer replies, lines over the end of a block, and plans with
-//! marked stages. The last line lacks its byte 10.
+//! many short lines with longer replies, lines over the end of a block, plans with marked
+//! stages, and blanks (blank_script.rs). The last line lacks its byte 10.
 
+use super::blank_script;
 use super::draw;
 use super::marked_edges::marked_edges;
 use super::marked_plans::{classes_of, EITHER_UNIT, INSIDE, PUBLISHED, TO_STAGE_7};
@@ -11,7 +12,7 @@ use crate::lines::fields;
 use crate::model::layout::{records, FIRST_RECORD, PROGRAM_WORDS};
 use crate::model::lots::LINE_BYTES;
 
-const LISTING: &str = "p 5 2 3 1 2\no 7\ni 7 1\ni 7 2\ni 7 2\nl 7\ni 7 0\nc 7\nt\n";
+pub const LISTING: &str = "p 5 2 3 1 2\no 7\ni 7 1\ni 7 2\ni 7 2\nl 7\ni 7 0\nc 7\nt\n";
 
 const PLAN_A: &str = "p 5 2 3 1 2";
 const PLAN_B: &str = "p 10 0 3 0 3 1 5 6 5 6";
@@ -33,10 +34,13 @@ pub fn all() -> Vec<u8> {
     script.push(10);
     marked_plans(&mut script);
     last_line(&mut script);
+    script.push(10);
+    blank_script::blanks(&mut script);
+    last_line(&mut script);
     script
 }
 
-fn line(script: &mut Vec<u8>, text: &str) {
+pub fn line(script: &mut Vec<u8>, text: &str) {
     script.extend(text.bytes());
     script.push(10);
 }
@@ -249,10 +253,10 @@ fn other_letters(script: &mut Vec<u8>) {
 }
 
 /// The program reads blocks of so many bytes.
-const BLOCK: usize = 4096;
+pub const BLOCK: usize = 4096;
 
 /// One line more, so that so many bytes are left of the block.
-fn left_of_block(script: &mut Vec<u8>, bytes: usize) {
+pub fn left_of_block(script: &mut Vec<u8>, bytes: usize) {
     let spare = 2 * BLOCK - bytes - 1 - script.len() % BLOCK;
     line(script, &"x".repeat(spare % BLOCK));
     assert_eq!(script.len() % BLOCK, (BLOCK - bytes) % BLOCK);
@@ -292,15 +296,16 @@ fn marked_plans(script: &mut Vec<u8>) {
     }
 }
 
-fn plan_line(words: &[u32]) -> String {
+pub fn plan_line(words: &[u32]) -> String {
     format!("p{}", fields(words))
 }
 
-fn lines(script: &mut Vec<u8>, texts: &[&str]) {
+pub fn lines(script: &mut Vec<u8>, texts: &[&str]) {
     texts.iter().for_each(|text| line(script, text));
 }
 
-fn lot(script: &mut Vec<u8>, number: u32, classes: &[u8]) {
+/// Opens a lot, inspects its units and looks at it.
+pub fn lot(script: &mut Vec<u8>, number: u32, classes: &[u8]) {
     line(script, &format!("o {number}"));
     for class in classes {
         line(script, &format!("i {number} {class}"));

@@ -7,10 +7,11 @@
 //!   and marked_sheets, by sheet_script; full_sheets; lots_script.
 //! - Listed place by place: stop_places, stop_stages, sooner_stops.
 //! - With blanks: blanks, which makes them; blank_lists, blank_stops; blank_sheets,
-//!   blank_refusals.
+//!   blank_refusals; blank_script.
 
 pub mod blank_lists;
 pub mod blank_refusals;
+pub mod blank_script;
 pub mod blank_sheets;
 pub mod blank_stops;
 pub mod blanks;
