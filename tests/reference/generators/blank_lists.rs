@@ -21,6 +21,27 @@ const THREE_UNITS: &[u32] = &[3, 1, 2, 0, 1];
 /// one unit more can't bring two bad ones or three nongood ones. Full accepts at unit 3.
 const INSIDE_BY_NONBAD: &[u32] = &[2, M, 3, M, 2, 1, 2, 3, 1, 2];
 
+/// Lists with stop and state of the four ways and the event: rows of 01 "Known lots" with
+/// blanks for marginal units, and others found by hand.
+pub const BLANK_JUDGED: &[(&[u32], &str, &str)] = &[
+    (A, ".0003", "0 0 0 0 4 1 4 1 3"),
+    (A, ".33000", "5 1 5 1 5 1 5 1 2"),
+    (A, ".3300", "0 0 0 0 0 0 0 0 0"),
+    (A, ".332", "0 0 3 2 3 2 3 2 5"),
+    (A, ".322", "0 0 3 2 3 2 3 2 6"),
+    (A, ".333", "0 0 3 2 3 2 3 2 5"),
+    (ONE, ".000000000000000003", "0 0 0 0 18 1 18 1 1"),
+    (ONE, ".300000000000000000", "0 0 0 0 18 1 18 1 1"),
+    (ONE, ".3222", "0 0 4 2 4 2 4 2 4"),
+    (FIRST_UNIT, ".3", "1 2 1 2 1 2 1 2 0"),
+    (EITHER_UNIT, ".03", "2 1 2 1 2 1 1 1 0"),
+    (EITHER_UNIT, ".23", "2 2 2 2 2 2 2 2 0"),
+    (INSIDE, ".30", "0 0 0 0 0 0 2 1 0"),
+    (INSIDE_BY_NONBAD, ".03", "0 0 0 0 0 0 2 1 0"),
+    (INSIDE_BY_NONBAD, ".033", "3 1 3 1 3 1 2 1 0"),
+    (INSIDE_BY_NONBAD, ".333", "3 2 3 2 3 2 3 2 0"),
+];
+
 /// Plans by hand, of 1 to 7 stages, without and with marked ones.
 const PLANS: [&[u32]; 16] = [
     UNIT,
@@ -78,6 +99,10 @@ impl Cases {
     }
 
     fn known_lists_with_blanks(&mut self) {
+        for &(words, list, _) in BLANK_JUDGED {
+            let list = classes(list).expect("a list is a dot and classes");
+            self.judged(&list, words);
+        }
         let known = KNOWN.iter().map(|&(words, list, ..)| (words, list));
         let marked = MARKED_JUDGED.iter().map(|&(words, list, _)| (words, list));
         let near_a = NEAR_A.split(' ').map(|list| (A, list));
