@@ -1,5 +1,7 @@
 //! Checks of the model itself, and of what the generators cover.
 
+mod blank_coverage;
+mod blank_selftest;
 mod chance_selftest;
 mod lot_chance_selftest;
 mod marked_selftest;
@@ -26,11 +28,15 @@ pub fn selftest() -> Result<(), String> {
     eprintln!(
         "selftest passed: alike with marked stages, {stops} stops, {in_marked} accept in one"
     );
+    let stops = blank_selftest::run(plans, plays)?;
+    eprintln!("selftest passed: {plans} random plans and {plays} lists of calls with blanks, {stops} stops");
     let plans = 400;
     let [lots, draws] = lot_chance_selftest::run(plans)?;
     eprintln!("selftest passed: {plans} random plans with lots, {lots} by their {draws} draws");
     let [lists, places] = stop_coverage::run()?;
     eprintln!("selftest passed: {lists} lists for {places} places of stops meet them all");
+    let [lines, places] = blank_coverage::run()?;
+    eprintln!("selftest passed: {lines} lines for {places} places of blanks meet them all");
     Ok(())
 }
 

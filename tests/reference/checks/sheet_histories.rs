@@ -2,8 +2,8 @@
 //! histories alone. Here lists of calls are answered from histories, without any
 //! words, and the stops are found by writing out all completions.
 
-use crate::generators::draw;
 use crate::generators::random::Random;
+use crate::generators::{blanks, draw};
 use crate::lines::sheet_lines::Write;
 use crate::model::class::HIGHEST;
 use crate::model::earliest::by_completions;
@@ -149,7 +149,7 @@ pub fn run(plays: usize) -> Result<(), String> {
         let units = random.between(1, 6);
         let words = draw::plan(random, 1 + round % 3, units);
         let length = random.pick(&LENGTHS);
-        play(random, &words, length)?;
+        play(random, &words, length, draw::sheet_call)?;
     }
     Ok(())
 }
@@ -163,12 +163,29 @@ pub fn run_marked(plays: usize) -> Result<(), String> {
         let units = random.between(2, 6);
         let words = draw::marked_plan(random, marked, k, units);
         let length = random.pick(&LENGTHS);
-        play(random, &words, length)?;
+        play(random, &words, length, draw::sheet_call)?;
     }
     Ok(())
 }
 
-fn play(random: &mut Random, words: &[u32], length: usize) -> Result<(), String> {
+/// Alike with blanks, under plans without and with marked stages.
+pub fn run_with_blanks(plays: usize) -> Result<(), String> {
+    let random = &mut Random::new(33);
+    for round in 0..plays {
+        let k = 1 + round % 4;
+        let marked = random.index(k);
+        let units = random.between(1, 6);
+        let words = draw::marked_plan(random, marked, k, units);
+        let length = random.pick(&LENGTHS);
+        play(random, &words, length, blanks::sheet_call)?;
+    }
+    Ok(())
+}
+
+/// Draws a call by a mix of classes.
+type Draw = fn(&mut Random, [u32; 3]) -> SheetCall;
+
+fn play(random: &mut Random, words: &[u32], length: usize, draw: Draw) -> Result<(), String> {
     let mut sheet = Sheet::default();
     let (length, seed) = (length as u32, random.between(0, u32::MAX));
     Write::New { length, seed }.make(&mut sheet.words);
@@ -181,7 +198,7 @@ fn play(random: &mut Random, words: &[u32], length: usize) -> Result<(), String>
         room: records(sheet.words.len()) - FIRST_RECORD as usize,
     };
     for _ in 0..120 {
-        let call = draw::sheet_call(random, [2, 1, 1]);
+        let call = draw(random, [2, 1, 1]);
         let (reply, expected) = (call.make(&mut sheet), histories.make(&call));
         if reply != expected {
             return Err(format!(

@@ -3,6 +3,7 @@
 use crate::generators::plan_cases;
 use crate::lines::plan_lines::Case;
 use crate::model::chance::{Bounds, UNITS};
+use crate::model::class::BLANK;
 use crate::model::earliest::{few_completions, Stop, Table};
 use crate::model::judge::Judgement;
 use crate::model::lot_chance::{self, Lot};
@@ -92,6 +93,9 @@ fn judged(tally: &mut Tally, list: &[u8], words: &[u32], judgement: &Judgement) 
     if semi != full {
         count(tally, "j: semi and full differ".to_string());
     }
+    if list.contains(&BLANK) {
+        count(tally, "j: list with blanks".to_string());
+    }
     let plan = Plan::admitted(words).expect("a plan that is not admitted is refused");
     stop(tally, list, &plan, earliest);
 }
@@ -118,6 +122,9 @@ fn stop(tally: &mut Tally, list: &[u8], plan: &Plan, stop: Stop) {
         tally,
         format!("j: {verdict} in stage {stage} of {}", ends.len()),
     );
+    if list[y - 1] == BLANK {
+        count(tally, format!("j: {verdict} on a blank"));
+    }
     if plan.stages[stage - 1].a.is_none() {
         count(tally, format!("j: {verdict} in a marked stage"));
     }
