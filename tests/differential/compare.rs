@@ -2,6 +2,7 @@
 
 use crate::library::{self, Answer, Lent, PATTERN, PATTERN_64};
 use reference::model::chance::{self, Bounds, Weights};
+use reference::model::class::BLANK;
 use reference::model::lot_chance::Lot;
 use reference::model::plan::Plan;
 use reference::model::plan_calls::{ChanceCall, LotChanceCall, PlanCalls};
@@ -24,6 +25,9 @@ pub struct Comparer {
     /// admitted.
     pub marked: u64,
     pub marked_refused: u64,
+    /// Lists with a blank that were judged, and looks that showed one.
+    blank_lists: u64,
+    blank_looks: u64,
     calls: PlanCalls,
     counts: BTreeMap<(&'static str, u32), u64>,
 }
@@ -39,6 +43,9 @@ impl Comparer {
         let mut lent = Lent::new(&before, PATTERN);
         let answer = library::on_sheet(call, &mut lent);
         let reply = call.make(&mut self.sheet);
+        if let (SheetCall::Look(_), Ok(shown)) = (call, &reply) {
+            self.blank_looks += u64::from(shown[5] > 0);
+        }
         let what = || format!("{call:?} on {}", text(&before));
         self.same(call.name(), &answer, reply, what)?;
         if lent.run() != self.sheet.words || !lent.kept_beyond(lent.run().len()) {
@@ -50,6 +57,7 @@ impl Comparer {
     pub fn judge(&mut self, plan: &[u32], list: &[u8]) -> Compared {
         let reply = self.calls.judge(list, plan);
         let reply = reply.map(|judgement| judgement.numbers().to_vec());
+        self.blank_lists += u64::from(reply.is_ok() && list.contains(&BLANK));
         let answer = library::judge(plan, list);
         let what = || format!("judge {plan:?} {}", text(list));
         self.same("judge", &answer, reply, what)
@@ -145,6 +153,8 @@ impl Comparer {
         }
         let [drawn, refused] = [self.marked, self.marked_refused];
         println!("marked stages: {drawn} random plans, {refused} changed ones not admitted");
+        let [lists, looks] = [self.blank_lists, self.blank_looks];
+        println!("blanks: {lists} lists judged, {looks} looks");
     }
 }
 

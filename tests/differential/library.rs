@@ -126,7 +126,7 @@ pub fn on_sheet(call: &SheetCall, sheet: &mut Lent<u32>) -> Answer {
         }
         SheetCall::Strike(lot) => with_words(0, |_| unsafe { haq_strike(words, n, lot) }),
         SheetCall::Close(lot) => with_words(0, |_| unsafe { haq_close(words, n, lot) }),
-        SheetCall::Look(lot) => with_words(5, |out| unsafe { haq_look(words, n, lot, out) }),
+        SheetCall::Look(lot) => with_words(6, |out| unsafe { haq_look(words, n, lot, out) }),
         SheetCall::Tally => with_words(5, |out| unsafe { haq_tally(words, n, out) }),
         SheetCall::Estimate(lot) => {
             with_long_words(4, |out| unsafe { haq_estimate(words, n, lot, out) })

@@ -10,9 +10,10 @@ use reference::generators::marked_edges::marked_edges;
 use reference::generators::marked_plans::{LARGEST_MARKED, PUBLISHED, SEVEN_SIX};
 use reference::generators::plan_edges::edges;
 use reference::generators::random::Random;
-use reference::generators::{draw, plan_cases};
+use reference::generators::{blanks, draw, plan_cases};
 use reference::lines::plan_lines::Case;
 use reference::model::chance::MOST_SCRATCH;
+use reference::model::class::BLANK;
 use reference::model::earliest::Table;
 use reference::model::layout::{LEAST_WORDS, MOST_WORDS};
 use reference::model::plan::{Plan, MARK, STAGE_WORDS};
@@ -65,7 +66,8 @@ fn stored_cases(comparer: &mut Comparer) -> Compared {
 fn plan(comparer: &mut Comparer, words: &[u32]) -> Compared {
     comparer.judge(words, &[])?;
     comparer.judge(words, &[0, 1, 2, 0, 0])?;
-    comparer.judge(words, &[0, 3])?;
+    comparer.judge(words, &[3, 0, 3, 2])?;
+    comparer.judge(words, &[0, 4])?;
     for length in [LEAST_WORDS - 1, LEAST_WORDS, LEAST_WORDS + 3] {
         comparer.new_sheet(vec![PATTERN; length]);
         comparer.on_sheet(&SheetCall::Fresh(words.to_vec()))?;
@@ -150,6 +152,15 @@ fn drawn_plans(comparer: &mut Comparer, random: &mut Random) -> Compared {
     Ok(())
 }
 
+/// About half of a list's marginal units blank, in half of the lists.
+fn maybe_with_blanks(random: &mut Random, list: Vec<u8>) -> Vec<u8> {
+    if random.one_in(2) {
+        blanks::some(random, &list)
+    } else {
+        list
+    }
+}
+
 fn lists(comparer: &mut Comparer, random: &mut Random, words: &[u32]) -> Compared {
     let plan = Plan::admitted(words).expect("the plan is drawn as an admitted one");
     let table = Table::new(&plan);
@@ -158,17 +169,18 @@ fn lists(comparer: &mut Comparer, random: &mut Random, words: &[u32]) -> Compare
         let length = random.index(units + 4);
         let until = random.index(units + 2);
         let most = random.pick(&[units, units + 3, 2_000]);
-        for mut list in [
+        for list in [
             draw::mixed(random, &plan, length),
             draw::near_the_numbers(random, &plan),
             draw::held(random, &plan, &table, until, units),
             draw::held(random, &plan, &table, units + 1, most),
         ] {
+            let mut list = maybe_with_blanks(random, list);
             list.truncate(random.pick(&[2_000, 2_000, 2_000, units - 1]));
             comparer.judge(words, &list)?;
             if !list.is_empty() && random.one_in(4) {
                 let place = random.index(list.len());
-                list[place] = random.pick(&[3, 4, 127, 128, 255]);
+                list[place] = random.pick(&[4, 5, 7, 127, 128, 255]);
                 comparer.judge(words, &list)?;
             }
         }
@@ -176,7 +188,7 @@ fn lists(comparer: &mut Comparer, random: &mut Random, words: &[u32]) -> Compare
     Ok(())
 }
 
-/// Lists of 1,000 and more classes, with and without a class above 2.
+/// Lists of 1,000 and more classes, with and without a class that is refused.
 fn long_lists(comparer: &mut Comparer, random: &mut Random) -> Compared {
     for words in [A, B, ONE, TWO, THREE, SEVEN, LARGEST[0], LARGEST[1]] {
         long_lists_of(comparer, random, words)?;
@@ -188,12 +200,14 @@ fn long_lists_of(comparer: &mut Comparer, random: &mut Random, words: &[u32]) ->
     let plan = Plan::admitted(words).expect("the hand-written plans are admitted");
     let table = Table::new(&plan);
     for length in [999, 1_000, 1_001, 1_002, 1_999, 2_000, 100_000] {
+        comparer.judge(words, &vec![BLANK; length])?;
         let list = draw::held(random, &plan, &table, plan.units(), length);
+        let list = maybe_with_blanks(random, list);
         comparer.judge(words, &list)?;
         for place in [0, 999, 1_000, random.index(length), length - 1] {
             let mut other = list.clone();
             if place < length {
-                other[place] = random.pick(&[0, 1, 2, 3, 255]);
+                other[place] = random.pick(&[0, 1, 2, 3, 4, 255]);
             }
             comparer.judge(words, &other)?;
         }

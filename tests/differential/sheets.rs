@@ -5,8 +5,10 @@ use reference::generators::full_sheets::{self, Fill};
 use reference::generators::hand_written::{A, B, ONE, SEVEN, TWO, UNIT};
 use reference::generators::marked_plans::{PUBLISHED, SEVEN_THREE};
 use reference::generators::random::Random;
-use reference::generators::{draw, sheet_cases};
+use reference::generators::sheet_damage::is_class;
+use reference::generators::{blanks, draw, sheet_cases};
 use reference::lines::sheet_lines::Command;
+use reference::model::class::{BLANK, MARGINAL};
 use reference::model::layout::*;
 use reference::model::sheet_call::SheetCall;
 
@@ -75,7 +77,7 @@ fn sizes(comparer: &mut Comparer, random: &mut Random) -> Compared {
         for most in [0, 3, 20, u32::MAX] {
             comparer.new_sheet(any_words(random, length, most));
             each_call(comparer, 1, 0)?;
-            each_call(comparer, 0, 3)?;
+            each_call(comparer, 0, 4)?;
             for plan in [&[], &A[..4], &[5, 2, 3, 1, 3], A, SEVEN] {
                 comparer.on_sheet(&SheetCall::Fresh(plan.to_vec()))?;
                 each_call(comparer, 1, 0)?;
@@ -100,9 +102,9 @@ fn any_records(comparer: &mut Comparer, random: &mut Random) -> Compared {
         for at in HEAD..length {
             let next = random.pick(&indices);
             let tag = random.pick(&[0, 0, 1, FREE]);
-            words[at] = [random.between(0, 3), next, next, tag][at % RECORD_WORDS];
+            words[at] = [random.between(0, 4), next, next, tag][at % RECORD_WORDS];
         }
-        each_call_apart(comparer, 1 + round % 3, round % 4)?;
+        each_call_apart(comparer, 1 + round % 3, round % 5)?;
     }
     Ok(())
 }
@@ -147,6 +149,9 @@ fn marked_plays(comparer: &mut Comparer, random: &mut Random) -> Compared {
     Ok(())
 }
 
+/// Draws a call by a mix of classes.
+type Draw = fn(&mut Random, [u32; 3]) -> SheetCall;
+
 fn play(comparer: &mut Comparer, random: &mut Random, plan: Vec<u32>, round: usize) -> Compared {
     let length = random.pick(&LENGTHS);
     comparer.new_sheet(any_words(random, length, u32::MAX));
@@ -156,14 +161,18 @@ fn play(comparer: &mut Comparer, random: &mut Random, plan: Vec<u32>, round: usi
         comparer.sheet.words[CLOSED_LOTS] = random.between(MOST_CLOSED - 4, MOST_CLOSED);
     }
     let mix = random.pick(&[[1, 1, 1], [8, 1, 1], [2, 1, 0], [1, 0, 3], [1, 3, 1]]);
+    let call = random.pick::<Draw>(&[draw::sheet_call, blanks::sheet_call]);
     for turn in 0..120 {
-        comparer.on_sheet(&draw::sheet_call(random, mix))?;
+        comparer.on_sheet(&call(random, mix))?;
         if turn % 5 == 0 {
             damaged(comparer, random)?;
         }
     }
     Ok(())
 }
+
+/// Classes, and words that are refused as a class.
+const CLASSES: [u32; 8] = [0, 1, 2, 3, 4, 255, 256, u32::MAX];
 
 /// Each call on the sheet with one word damaged, which is then undone.
 fn damaged(comparer: &mut Comparer, random: &mut Random) -> Compared {
@@ -179,13 +188,14 @@ fn damaged(comparer: &mut Comparer, random: &mut Random) -> Compared {
     let near = [own.wrapping_add(1), own.wrapping_sub(1), own ^ 2];
     let first = FIRST_RECORD;
     let far = [0, first - 1, first, used, used - 1, 1 << 30, u32::MAX];
-    words[index] = match random.index(3) {
+    words[index] = match random.index(4) {
         0 => random.pick(&near),
         1 => other,
+        2 => random.pick(&CLASSES),
         _ => random.pick(&far),
     };
     let lot = random.pick(&[1, 2, 3, 1_000, u32::MAX]);
-    let class = random.between(0, 3);
+    let class = random.pick(&CLASSES);
     each_call_apart(comparer, lot, class)?;
     comparer.sheet.words[index] = own;
     Ok(())
@@ -231,6 +241,16 @@ fn marked_sheets(comparer: &mut Comparer, random: &mut Random) -> Compared {
     Ok(())
 }
 
+/// About half of the marginal units on a sheet.
+fn make_blank(random: &mut Random, words: &mut [u32]) {
+    for index in HEAD..words.len() {
+        let marginal = is_class(words, index) && words[index] == u32::from(MARGINAL);
+        if marginal && random.one_in(2) {
+            words[index] = u32::from(BLANK);
+        }
+    }
+}
+
 fn calls_on_many_lots(
     comparer: &mut Comparer,
     random: &mut Random,
@@ -238,11 +258,14 @@ fn calls_on_many_lots(
     plan: &[u32],
     fill: &Fill,
 ) -> Compared {
-    let built = full_sheets::sheet(random, length, plan, fill);
+    let mut built = full_sheets::sheet(random, length, plan, fill);
+    if random.one_in(2) {
+        make_blank(random, &mut built.words);
+    }
     comparer.new_sheet(built.words);
     for _ in 0..12 {
         let lot = random.pick(&built.lots);
-        let class = random.between(0, 2);
+        let class = random.between(0, 3);
         each_call_apart(comparer, lot, class)?;
         each_call(comparer, lot, class)?;
         each_call(comparer, lot + 1, class)?;
