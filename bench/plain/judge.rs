@@ -8,7 +8,7 @@ use super::plan::{Counts, Plan, Stage, ACCEPTED, REJECTED, UNDECIDED};
 pub fn judge(words: &[u32], list: &[u8]) -> Result<[u32; 9], u32> {
     let plan = Plan::admitted(words).ok_or(2_u32)?;
     // The greatest class, because a loop without an early return is vector code.
-    if list.iter().fold(0, |most, &class| most.max(class)) > 2 {
+    if list.iter().fold(0, |most, &class| most.max(class)) > 3 {
         return Err(7);
     }
     Ok(stops(&plan, list).numbers(&plan))

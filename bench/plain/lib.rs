@@ -6,5 +6,6 @@ pub mod chance;
 mod draw;
 pub mod judge;
 pub mod lots;
+mod packed;
 mod plan;
 pub mod sheet;

@@ -53,28 +53,11 @@ pub struct Counts {
 }
 
 impl Counts {
-    /// One unit.
-    pub fn of(class: u32) -> Counts {
-        Counts {
-            units: 1,
-            nongood: u32::from(class != 0),
-            bad: u32::from(class == 2),
-        }
-    }
-
     pub fn plus(self, other: Counts) -> Counts {
         Counts {
             units: self.units + other.units,
             nongood: self.nongood + other.nongood,
             bad: self.bad + other.bad,
-        }
-    }
-
-    pub fn minus(self, other: Counts) -> Counts {
-        Counts {
-            units: self.units - other.units,
-            nongood: self.nongood - other.nongood,
-            bad: self.bad - other.bad,
         }
     }
 
@@ -86,6 +69,7 @@ impl Counts {
         self.units - self.bad
     }
 
+    /// Good, marginal with the blank ones, and bad.
     pub fn classes(self) -> [u32; 3] {
         [self.good(), self.nongood - self.bad, self.bad]
     }

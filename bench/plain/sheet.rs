@@ -1,5 +1,6 @@
 //! The calls on a sheet, each by one walk of the records in use.
 
+use super::packed::Packed;
 use super::plan::{Counts, Limits, Plan, ACCEPTED, MOST_STAGES, STAGE_WORDS, UNDECIDED};
 use std::ops::Range;
 
@@ -25,7 +26,7 @@ type Record = [u32; 4];
 struct Lot {
     record: u32,
     newest: u32,
-    counts: Counts,
+    packed: Packed,
     state: u32,
 }
 
@@ -97,65 +98,58 @@ impl Sheet<'_> {
     /// The counts of the inspections back from `at`, whose serials are those of the
     /// range, and the index of the one before them. Faults are gathered, so that the
     /// loop has no other way out than an index past the records.
-    fn run(&self, lot: u32, mut at: u32, serials: Range<u32>) -> Option<(Counts, u32)> {
-        let units = serials.end - serials.start;
-        let (mut sum, mut bad, mut faults) = (0_u32, 0_u32, 0);
+    fn run(&self, lot: u32, mut at: u32, serials: Range<u32>) -> Option<(Packed, u32)> {
+        let mut packed = Packed::units(serials.end - serials.start);
+        let mut faults = 0;
         for serial in serials.rev() {
             let &[class, older, of, number] = self.records.get(at as usize)?;
             faults |= (of ^ lot) | (number ^ serial);
-            faults |= u32::from(class > 2) | u32::from(at < FIRST_RECORD);
-            sum = sum.wrapping_add(class);
-            bad = bad.wrapping_add(class >> 1);
+            faults |= (class >> 2) | u32::from(at < FIRST_RECORD);
+            packed = packed.with(class);
             at = older;
         }
-        let nongood = sum.wrapping_sub(bad);
-        let counts = Counts {
-            units,
-            nongood,
-            bad,
-        };
-        (faults == 0).then_some((counts, at))
+        (faults == 0).then_some((packed, at))
     }
 
     /// The counts of a lot's inspections, if they are sound. None may follow the
     /// earliest stop: within a stage it is enough to ask before the newest one, and
     /// the ends of stages are asked apart.
-    fn lot(&self, lot: u32, newest: u32) -> Option<Counts> {
+    fn lot(&self, lot: u32, newest: u32) -> Option<Packed> {
         if newest == 0 {
-            return Some(Counts::default());
+            return Some(Packed::default());
         }
         let &[class, _, _, units] = self.record(newest)?;
         if units > self.judge.plan.stages()[0].end {
-            return self.later_lot(lot, newest, Counts::of(class), units);
+            return self.later_lot(lot, newest, Packed::of(class), units);
         }
-        let (counts, older) = self.run(lot, newest, 1..units + 1)?;
-        let undecided = |counts| self.judge.limits[0].state(counts) == UNDECIDED;
-        let sound = older == 0 && undecided(counts.minus(Counts::of(class)));
-        sound.then_some(counts)
+        let (packed, older) = self.run(lot, newest, 1..units + 1)?;
+        let undecided = |packed: Packed| self.judge.limits[0].state(packed.counts()) == UNDECIDED;
+        let sound = older == 0 && undecided(packed.minus(Packed::of(class)));
+        sound.then_some(packed)
     }
 
     /// As `lot`, for one past the first stage.
-    fn later_lot(&self, lot: u32, newest: u32, last: Counts, units: u32) -> Option<Counts> {
+    fn later_lot(&self, lot: u32, newest: u32, last: Packed, units: u32) -> Option<Packed> {
         let stages = self.judge.plan.stages();
         if units > self.judge.plan.last().end {
             return None;
         }
         let ended = self.judge.ended(units);
-        let mut after = [Counts::default(); MOST_STAGES];
-        let (mut counts, mut at, mut high) = (Counts::default(), newest, units);
+        let mut after = [Packed::default(); MOST_STAGES];
+        let (mut packed, mut at, mut high) = (Packed::default(), newest, units);
         for i in (0..=ended).rev() {
             let low = if i == 0 { 0 } else { stages[i - 1].end };
             let (more, older) = self.run(lot, at, low + 1..high + 1)?;
-            after[i] = counts;
-            counts = counts.plus(more);
+            after[i] = packed;
+            packed = packed.plus(more);
             (at, high) = (older, low);
         }
         after[ended] = last;
         let undecided = |i: usize| {
-            let limits = &self.judge.limits[i];
-            limits.state(counts.minus(after[i])) == UNDECIDED
+            let before = packed.minus(after[i]);
+            self.judge.limits[i].state(before.counts()) == UNDECIDED
         };
-        (at == 0 && (0..=ended).all(undecided)).then_some(counts)
+        (at == 0 && (0..=ended).all(undecided)).then_some(packed)
     }
 
     /// The number of free records.
@@ -190,7 +184,8 @@ impl Sheet<'_> {
             if lot <= before || zero != 0 {
                 return None;
             }
-            let counts = self.lot(at, newest)?;
+            let packed = self.lot(at, newest)?;
+            let counts = packed.counts();
             seen += 1 + counts.units;
             if lot < number {
                 survey.link = at as usize * 4 + 1;
@@ -198,7 +193,7 @@ impl Sheet<'_> {
                 survey.lot = Some(Lot {
                     record: at,
                     newest,
-                    counts,
+                    packed,
                     state: self.judge.state(counts),
                 });
             }
@@ -285,13 +280,14 @@ pub fn open(words: &mut [u32], number: u32) -> Result<(), u32> {
 
 pub fn inspect(words: &mut [u32], number: u32, class: u32) -> Result<(), u32> {
     let (_, lot) = survey_lot(words, number)?;
-    if class > 2 {
+    if class > 3 {
         return Err(7);
     }
     if lot.state != UNDECIDED {
         return Err(8);
     }
-    let record = take(words, [class, lot.newest, lot.record, lot.counts.units + 1])?;
+    let serial = lot.packed.counts().units + 1;
+    let record = take(words, [class, lot.newest, lot.record, serial])?;
     words[lot.record as usize * 4 + 2] = record;
     Ok(())
 }
@@ -315,7 +311,7 @@ pub fn close(words: &mut [u32], number: u32) -> Result<(), u32> {
         return Err(12);
     }
     words[TOTALS + (lot.state - ACCEPTED) as usize] += 1;
-    let classes = lot.counts.classes();
+    let classes = lot.packed.counts().classes();
     let totals = words[TOTALS + 2..HEAD].iter_mut();
     totals.zip(classes).for_each(|(total, more)| *total += more);
     words[survey.link] = words[lot.record as usize * 4 + 1];
@@ -329,10 +325,11 @@ pub fn close(words: &mut [u32], number: u32) -> Result<(), u32> {
     Ok(())
 }
 
-pub fn look(words: &[u32], number: u32) -> Result<[u32; 5], u32> {
+pub fn look(words: &[u32], number: u32) -> Result<[u32; 6], u32> {
     let (_, lot) = survey_lot(words, number)?;
-    let [good, marginal, bad] = lot.counts.classes();
-    Ok([lot.state, lot.counts.units, good, marginal, bad])
+    let (counts, blanks) = (lot.packed.counts(), lot.packed.blanks());
+    let [good, marginal, bad] = counts.classes();
+    Ok([lot.state, counts.units, good, marginal, bad, blanks])
 }
 
 pub fn tally(words: &[u32]) -> Result<[u32; 5], u32> {
@@ -348,8 +345,8 @@ pub fn estimate(words: &[u32], number: u32) -> Result<[u64; 4], u32> {
     if survey.stages > 1 {
         return Err(15);
     }
-    let last = Counts::of(words[lot.newest as usize * 4]);
-    let before = lot.counts.minus(last);
+    let last = Packed::of(words[lot.newest as usize * 4]);
+    let before = lot.packed.minus(last).counts();
     let [good, marginal, bad] = before.classes().map(u64::from);
     Ok([good, marginal, bad, u64::from(before.units)])
 }
