@@ -33,7 +33,7 @@ enum haq_refusal {
     HAQ_LOT_ZERO = 4,        /* 0 is not a lot number ("blank lot") */
     HAQ_OPEN_ALREADY = 5,    /* the lot is open already */
     HAQ_NOT_OPEN = 6,        /* the lot is not open */
-    HAQ_CLASS = 7,           /* a class is above 2 */
+    HAQ_CLASS = 7,           /* a class is above 3 */
     HAQ_DECIDED = 8,         /* the lot is decided */
     HAQ_NONE_TO_STRIKE = 9,  /* the lot has no inspection to strike */
     HAQ_UNDECIDED = 10,      /* the lot is undecided */
@@ -57,7 +57,7 @@ static inline const char *haq_refusal_text(uint32_t number) {
     case HAQ_LOT_ZERO: return "0 is not a lot number";
     case HAQ_OPEN_ALREADY: return "the lot is open already";
     case HAQ_NOT_OPEN: return "the lot is not open";
-    case HAQ_CLASS: return "a class is above 2";
+    case HAQ_CLASS: return "a class is above 3";
     case HAQ_DECIDED: return "the lot is decided";
     case HAQ_NONE_TO_STRIKE: return "the lot has no inspection to strike";
     case HAQ_UNDECIDED: return "the lot is undecided";

@@ -73,7 +73,7 @@ static void chances(void) {
 }
 
 int main(void) {
-    static const uint8_t list[] = {0, 0, 0, 1, 2, 3};
+    static const uint8_t list[] = {0, 0, 0, 1, 2, 4};
     uint32_t sheet[64] = {0};
     keep_sheet(sheet, 64);
     judge(list, 5);

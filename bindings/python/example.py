@@ -54,7 +54,7 @@ def main():
     keep_sheet(Sheet(64))
     judged([0, 0, 0, 1, 2])
     judged([])
-    judged([0, 0, 0, 1, 2, 3])
+    judged([0, 0, 0, 1, 2, 4])
     low, high = chance(PLAN, [90, 7, 3])
     print(f"chance 90 7 3: {low} to {high}")
     low, high = chart(PLAN, [90, 7, 3])

@@ -44,7 +44,7 @@ _TABLE = [
     (4, "LotZero", "0 is not a lot number"),
     (5, "OpenAlready", "the lot is open already"),
     (6, "NotOpen", "the lot is not open"),
-    (7, "Class", "a class is above 2"),
+    (7, "Class", "a class is above 3"),
     (8, "Decided", "the lot is decided"),
     (9, "NoneToStrike", "the lot has no inspection to strike"),
     (10, "Undecided", "the lot is undecided"),

@@ -82,7 +82,7 @@ fn chances() -> Reply<()> {
 
 fn main() {
     keep_sheet(&mut Sheet(&mut [0; 64])).expect("the calls are granted");
-    let list = [0, 0, 0, 1, 2, 3];
+    let list = [0, 0, 0, 1, 2, 4];
     judged(&list[..5]);
     judged(&[]);
     judged(&list);

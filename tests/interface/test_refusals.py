@@ -115,7 +115,7 @@ class Raised(unittest.TestCase):
         self.refused(haqothwe.LotZero, sheet.open, 0)
         self.refused(haqothwe.OpenAlready, sheet.open, 7)
         self.refused(haqothwe.NotOpen, sheet.look, 8)
-        self.refused(haqothwe.Class, sheet.inspect, 7, 3)
+        self.refused(haqothwe.Class, sheet.inspect, 7, 4)
         self.refused(haqothwe.NoneToStrike, sheet.strike, 7)
         self.refused(haqothwe.Undecided, sheet.close, 7)
         self.refused(haqothwe.Full, sheet_with(7, words=48).open, 8)
