@@ -57,7 +57,7 @@ fn on_sheet(sheet: &mut Sheet, call: &SheetCall) -> Answer {
         SheetCall::Look(lot) => returned(
             sheet
                 .look(lot)
-                .map(|it| [it.state, it.units, it.good, it.marginal, it.bad]),
+                .map(|it| [it.state, it.units, it.good, it.marginal, it.bad, it.blanks]),
         ),
         SheetCall::Tally => returned(
             sheet

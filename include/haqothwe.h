@@ -84,7 +84,9 @@ enum haq_state { HAQ_STATE_UNDECIDED = 0, HAQ_STATE_ACCEPTED = 1, HAQ_STATE_REJE
 #define HAQ_SCRATCH_MOST 7200
 
 /* A plan has five words a stage: n, a1, r1, a2, r2; 1 to 7 stages. A class is
-   0 good, 1 marginal, 2 bad. */
+   0 good, 1 marginal, 2 bad, 3 blank: a return with no text to code. A blank
+   stays 3 on the sheet, and counts as marginal in everything but the last number
+   of haq_look. */
 
 /* As both a1 and a2 of a stage: acceptance is not permitted there. The last stage
    is none of these, and they stand ahead of the stages with acceptance numbers. */
@@ -105,8 +107,9 @@ uint32_t haq_strike(uint32_t *sheet, size_t n, uint32_t lot);
 /* Adds a decided lot to the totals and frees its records. Refusals 1, 3, 6, 10, 12. */
 uint32_t haq_close(uint32_t *sheet, size_t n, uint32_t lot);
 
-/* What a lot shows: state, units, good, marginal, bad. Refusals 1, 3, 6. */
-uint32_t haq_look(const uint32_t *sheet, size_t n, uint32_t lot, uint32_t out[5]);
+/* What a lot shows: state, units, good, marginal, bad, blanks. The blanks are
+   among the marginal units too. Refusals 1, 3, 6. */
+uint32_t haq_look(const uint32_t *sheet, size_t n, uint32_t lot, uint32_t out[6]);
 
 /* Totals of the closed lots: accepted lots, rejected lots, good, marginal, bad
    units. Refusals 1, 3. */
@@ -123,8 +126,9 @@ uint32_t haq_judge(const uint32_t *plan, size_t plan_n, const uint8_t *list, siz
                    uint32_t out[9]);
 
 /* The chance of acceptance lies between low and high, in units of 2^-40, where
-   classes 0, 1, 2 have weights w0, w1, w2. The scratch words that the plan needs
-   are written to; those beyond are not. Refusals 2, 13, 14. */
+   classes 0, 1, 2 have weights w0, w1, w2; blanks have no weight of their own and
+   belong to w1. The scratch words that the plan needs are written to; those
+   beyond are not. Refusals 2, 13, 14. */
 uint32_t haq_chance(const uint32_t *plan, size_t plan_n, uint32_t w0, uint32_t w1, uint32_t w2,
                     uint64_t *scratch, size_t n, uint64_t out[2]);
 
@@ -133,7 +137,8 @@ uint32_t haq_chart(const uint32_t *plan, size_t plan_n, uint32_t w0, uint32_t w1
                    uint64_t *scratch, size_t n, double out[2]);
 
 /* As haq_chance, where the sample is drawn without replacement from a lot of so
-   many good, marginal and bad units. Refusals 2, 17, 14. */
+   many good, marginal and bad units, blanks among the marginal. Refusals 2, 17,
+   14. */
 uint32_t haq_lot_chance(const uint32_t *plan, size_t plan_n, uint32_t good, uint32_t marginal,
                         uint32_t bad, uint64_t *scratch, size_t n, uint64_t out[2]);
 

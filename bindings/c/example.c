@@ -14,7 +14,7 @@ static void done(const char *call, uint32_t refusal) {
 }
 
 static void show_lot(uint32_t *sheet, size_t n) {
-    uint32_t look[5];
+    uint32_t look[6];
     uint64_t estimate[4];
     if (haq_look(sheet, n, 7, look) == HAQ_GRANTED)
         printf("look 7: %s after %" PRIu32 " units, %" PRIu32 " good, %" PRIu32

@@ -65,7 +65,8 @@ REFUSALS = {
 globals().update((kind.__name__, kind) for kind in REFUSALS.values())
 
 
-Look = namedtuple("Look", "state units good marginal bad")
+# The blanks, units of class 3, are among the marginal too.
+Look = namedtuple("Look", "state units good marginal bad blanks")
 Tally = namedtuple("Tally", "accepted rejected good marginal bad")
 Estimate = namedtuple("Estimate", "good marginal bad denominator")
 Judgement = namedtuple("Judgement", "uncurtailed semi full earliest event")
@@ -130,6 +131,7 @@ class Sheet:
         self._call(_open, _word(lot))
 
     def inspect(self, lot, class_):
+        """class_: 0 good, 1 marginal, 2 bad or 3 blank."""
         self._call(_inspect, _word(lot), _word(class_))
 
     def strike(self, lot):
@@ -139,7 +141,7 @@ class Sheet:
         self._call(_close, _word(lot))
 
     def look(self, lot):
-        out = (_u32 * 5)()
+        out = (_u32 * 6)()
         self._call(_look, _word(lot), out)
         return Look(*out)
 
@@ -179,7 +181,7 @@ def _pair(function, kind, plan, classes, scratch):
 
 
 def chance(plan, weights, scratch=SCRATCH_MOST):
-    """Low and high in units of 2^-40."""
+    """Low and high in units of 2^-40. Blanks belong to the marginal weight."""
     return _pair(_chance, _u64, plan, weights, scratch)
 
 
@@ -189,5 +191,6 @@ def chart(plan, weights, scratch=SCRATCH_MOST):
 
 
 def lot_chance(plan, lot, scratch=SCRATCH_MOST):
-    """Low and high in units of 2^-40 for a lot, given its good, marginal and bad units."""
+    """Low and high in units of 2^-40 for a lot, given its good, marginal and bad units, blanks
+    among the marginal."""
     return _pair(_lot_chance, _u64, plan, lot, scratch)

@@ -97,6 +97,8 @@ pub struct Look {
     pub good: u32,
     pub marginal: u32,
     pub bad: u32,
+    /// Units of class 3, which are among the marginal too.
+    pub blanks: u32,
 }
 
 #[repr(C)]
@@ -185,6 +187,7 @@ impl Sheet<'_> {
         reply(|_| unsafe { haq_open(self.0.as_mut_ptr(), self.0.len(), lot) })
     }
 
+    /// A class is 0 good, 1 marginal, 2 bad or 3 blank.
     pub fn inspect(&mut self, lot: u32, class: u32) -> Reply<()> {
         reply(|_| unsafe { haq_inspect(self.0.as_mut_ptr(), self.0.len(), lot, class) })
     }
@@ -215,7 +218,7 @@ pub fn judge(plan: &[u32], list: &[u8]) -> Reply<Judgement> {
     reply(|out| unsafe { haq_judge(words, k, list.as_ptr(), list.len(), out) })
 }
 
-/// Low and high in units of 2^-40.
+/// Low and high in units of 2^-40. Blanks belong to w1.
 pub fn chance(plan: &[u32], [w0, w1, w2]: [u32; 3], scratch: &mut [u64]) -> Reply<[u64; 2]> {
     let (words, k, n) = (plan.as_ptr(), plan.len(), scratch.len());
     reply(|out| unsafe { haq_chance(words, k, w0, w1, w2, scratch.as_mut_ptr(), n, out) })
@@ -227,7 +230,8 @@ pub fn chart(plan: &[u32], [w0, w1, w2]: [u32; 3], scratch: &mut [u64]) -> Reply
     reply(|out| unsafe { haq_chart(words, k, w0, w1, w2, scratch.as_mut_ptr(), n, out) })
 }
 
-/// Low and high in units of 2^-40 for a lot, given its good, marginal and bad units.
+/// Low and high in units of 2^-40 for a lot, given its good, marginal and bad units, blanks
+/// among the marginal.
 pub fn lot_chance(plan: &[u32], lot: [u32; 3], scratch: &mut [u64]) -> Reply<[u64; 2]> {
     let (words, k, n) = (plan.as_ptr(), plan.len(), scratch.len());
     let [good, marginal, bad] = lot;
