@@ -18,8 +18,8 @@ static void show_lot(uint32_t *sheet, size_t n) {
     uint64_t estimate[4];
     if (haq_look(sheet, n, 7, look) == HAQ_GRANTED)
         printf("look 7: %s after %" PRIu32 " units, %" PRIu32 " good, %" PRIu32
-               " marginal, %" PRIu32 " bad\n",
-               STATES[look[0]], look[1], look[2], look[3], look[4]);
+               " marginal (%" PRIu32 " blank), %" PRIu32 " bad\n",
+               STATES[look[0]], look[1], look[2], look[3], look[5], look[4]);
     done("inspect 7 0", haq_inspect(sheet, n, 7, 0));
     if (haq_estimate(sheet, n, 7, estimate) == HAQ_GRANTED)
         printf("estimate 7: %" PRIu64 ", %" PRIu64 ", %" PRIu64 " over %" PRIu64 "\n", estimate[0],
@@ -31,7 +31,7 @@ static void keep_sheet(uint32_t *sheet, size_t n) {
     done("fresh without a plan", haq_fresh(sheet, n, PLAN, 0));
     done("fresh", haq_fresh(sheet, n, PLAN, 5));
     done("open 7", haq_open(sheet, n, 7));
-    done("inspect 7 1", haq_inspect(sheet, n, 7, 1));
+    done("inspect 7 3", haq_inspect(sheet, n, 7, 3));
     done("inspect 7 0", haq_inspect(sheet, n, 7, 0));
     done("strike 7", haq_strike(sheet, n, 7));
     done("inspect 7 2", haq_inspect(sheet, n, 7, 2));

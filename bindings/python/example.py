@@ -17,7 +17,7 @@ def done(call, function, *rest):
 def show_lot(sheet):
     it = sheet.look(7)
     print(f"look 7: {STATES[it.state]} after {it.units} units, "
-          f"{it.good} good, {it.marginal} marginal, {it.bad} bad")
+          f"{it.good} good, {it.marginal} marginal ({it.blanks} blank), {it.bad} bad")
     done("inspect 7 0", sheet.inspect, 7, 0)
     it = sheet.estimate(7)
     print(f"estimate 7: {it.good}, {it.marginal}, {it.bad} over {it.denominator}")
@@ -27,7 +27,7 @@ def keep_sheet(sheet):
     done("fresh without a plan", sheet.fresh, [])
     done("fresh", sheet.fresh, PLAN)
     done("open 7", sheet.open, 7)
-    done("inspect 7 1", sheet.inspect, 7, 1)
+    done("inspect 7 3", sheet.inspect, 7, 3)
     done("inspect 7 0", sheet.inspect, 7, 0)
     done("strike 7", sheet.strike, 7)
     done("inspect 7 2", sheet.inspect, 7, 2)

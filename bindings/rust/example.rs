@@ -27,7 +27,8 @@ fn done<T>(call: &str, reply: Reply<T>) {
 fn show_lot(sheet: &mut Sheet) -> Reply<()> {
     let it = sheet.look(7)?;
     print!("look 7: {} after {} units, ", word(it.state), it.units);
-    println!("{} good, {} marginal, {} bad", it.good, it.marginal, it.bad);
+    print!("{} good, {} marginal ", it.good, it.marginal);
+    println!("({} blank), {} bad", it.blanks, it.bad);
     done("inspect 7 0", sheet.inspect(7, 0));
     let it = sheet.estimate(7)?;
     print!("estimate 7: {}, {}, {} ", it.good, it.marginal, it.bad);
@@ -39,7 +40,7 @@ fn keep_sheet(sheet: &mut Sheet) -> Reply<()> {
     done("fresh without a plan", sheet.fresh(&[]));
     done("fresh", sheet.fresh(PLAN));
     done("open 7", sheet.open(7));
-    done("inspect 7 1", sheet.inspect(7, 1));
+    done("inspect 7 3", sheet.inspect(7, 3));
     done("inspect 7 0", sheet.inspect(7, 0));
     done("strike 7", sheet.strike(7));
     done("inspect 7 2", sheet.inspect(7, 2));
