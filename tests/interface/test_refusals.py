@@ -115,10 +115,18 @@ class Raised(unittest.TestCase):
         self.refused(haqothwe.LotZero, sheet.open, 0)
         self.refused(haqothwe.OpenAlready, sheet.open, 7)
         self.refused(haqothwe.NotOpen, sheet.look, 8)
-        self.refused(haqothwe.Class, sheet.inspect, 7, 4)
         self.refused(haqothwe.NoneToStrike, sheet.strike, 7)
         self.refused(haqothwe.Undecided, sheet.close, 7)
         self.refused(haqothwe.Full, sheet_with(7, words=48).open, 8)
+
+    def test_class(self):
+        """The greatest class is 3, and the whole list is asked, past every stop too."""
+        sheet = sheet_with(7, 3)
+        for class_ in (4, 2**32 - 1):
+            self.refused(haqothwe.Class, sheet.inspect, 7, class_)
+        self.assertEqual(sheet.look(7), (haqothwe.UNDECIDED, 1, 0, 1, 0, 1))
+        self.assertEqual(haqothwe.judge(ONE_STAGE, [3] * 9), haqothwe.judge(ONE_STAGE, [1] * 9))
+        self.refused(haqothwe.Class, haqothwe.judge, ONE_STAGE, [3] * 9 + [4])
 
     def test_decided_lot(self):
         sheet = sheet_with(7, 2, 2)
