@@ -1,4 +1,4 @@
-"""The usage of bin/lots and its manual, docs/lots.1, against the table and the program."""
+"""The usage of bin/lots and its manual, docs/lots.1, against the table and the program; blanks."""
 
 import os
 import re
@@ -58,6 +58,18 @@ class Manual(unittest.TestCase):
         self.assertEqual(full.stdout, "ok\n" * 4086 + "no 11\n")
         long = run(PROGRAM, input=f"t{' ' * 300}\no 1")
         self.assertEqual((long.returncode, long.stdout), (0, "no 16\nno 3\n"))
+
+
+class Blanks(unittest.TestCase):
+    def test_replies(self):
+        """Blanks stand last in a look and are within marginal; the totals have them there alone."""
+        commands = ["p 5 2 3 1 2", "o 7", "i 7 3", "l 7", "i 7 1", "i 7 4", "i 7 3", "l 7", "s 7",
+                    "l 7", "i 7 3", "c 7", "t"]
+        replies = ["ok", "ok", "ok", "undecided 1 0 1 0 1", "ok", "no 7", "ok",
+                   "rejected 3 0 3 0 2", "ok", "undecided 2 0 2 0 1", "ok", "ok",
+                   "tally 0 1 0 3 0"]
+        done = run(PROGRAM, input="\n".join(commands))
+        self.assertEqual(done.stdout.splitlines(), replies)
 
 
 if __name__ == "__main__":
