@@ -43,26 +43,6 @@ pub const BLANK_JUDGED: &[(&[u32], &str, &str)] = &[
     (INSIDE_BY_NONBAD, ".333", "3 2 3 2 3 2 3 2 0"),
 ];
 
-/// Plans by hand, of 1 to 7 stages, without and with marked ones.
-const PLANS: [&[u32]; 16] = [
-    UNIT,
-    A,
-    B,
-    ONE,
-    TWO,
-    THREE,
-    SEVEN,
-    FIRST_UNIT,
-    EITHER_UNIT,
-    INSIDE,
-    MARKED,
-    TWO_ONE,
-    THREE_ONE,
-    SEVEN_THREE,
-    SEVEN_SIX,
-    PUBLISHED,
-];
-
 fn admitted(words: &[u32]) -> Plan {
     Plan::admitted(words).expect("the plan is admitted")
 }
@@ -119,7 +99,10 @@ impl Cases {
 
     /// Plans by hand and those of published tables, which have rows of one plan.
     fn known_plans_with_blanks(&mut self) {
-        let by_hand = PLANS.into_iter().chain(LARGEST).chain(LARGEST_MARKED);
+        let by_hand = OF_ALL_KINDS
+            .into_iter()
+            .chain(LARGEST)
+            .chain(LARGEST_MARKED);
         let mut plans: Vec<Vec<u32>> = by_hand.map(Vec::from).collect();
         let mut published: Vec<Vec<u32>> = published::rows()
             .iter()
@@ -160,7 +143,7 @@ impl Cases {
     /// Blanks alone: so many that they decide, one less, and S. Long lists of them have the
     /// greatest sums of classes that a run can have.
     fn lists_of_blanks(&mut self) {
-        for words in PLANS {
+        for words in OF_ALL_KINDS {
             let plan = admitted(words);
             let stop = plan.stages[0].r[0] as usize;
             for length in [stop - 1, stop, plan.units()] {

@@ -15,31 +15,11 @@ const SEED: u64 = 1_000_017;
 /// The most units of a lot.
 const MOST: u32 = MOST_UNITS_OF_LOT as u32;
 
-/// Plans of 1 to 7 stages, without and with marked ones.
-const PLANS: [&[u32]; 16] = [
-    UNIT,
-    A,
-    B,
-    ONE,
-    TWO,
-    THREE,
-    SEVEN,
-    FIRST_UNIT,
-    EITHER_UNIT,
-    INSIDE,
-    MARKED,
-    TWO_ONE,
-    THREE_ONE,
-    SEVEN_THREE,
-    SEVEN_SIX,
-    PUBLISHED,
-];
-
 impl Cases {
     pub fn sized_lots(&mut self) {
         self.random = Random::new(SEED);
         self.known_sized_lots();
-        for words in PLANS {
+        for words in OF_ALL_KINDS {
             self.sizes_at_limits(words);
             self.lots_of_one_class(words);
             self.classes_used_up(words);

@@ -1,5 +1,6 @@
 //! Plans with marked stages (02, change 1), and what is known of them by hand.
 
+use super::hand_written::{A, B, MARKED, ONE, SEVEN, THREE, TWO, UNIT};
 use crate::model::chance::Weights;
 use crate::model::plan::MARK as M;
 
@@ -35,6 +36,26 @@ pub const SEVEN_THREE: &[u32] = &[
 pub const SEVEN_SIX: &[u32] = &[
     10, M, 8, M, 6, 10, M, 9, M, 7, 10, M, 10, M, 8, 10, M, 11, M, 9, 10, M, 12, M, 10, 10, M, 13,
     M, 11, 10, 15, 16, 11, 12,
+];
+
+/// Plans of 1 to 7 stages, without and with marked ones.
+pub const OF_ALL_KINDS: [&[u32]; 16] = [
+    UNIT,
+    A,
+    B,
+    ONE,
+    TWO,
+    THREE,
+    SEVEN,
+    FIRST_UNIT,
+    EITHER_UNIT,
+    INSIDE,
+    MARKED,
+    TWO_ONE,
+    THREE_ONE,
+    SEVEN_THREE,
+    SEVEN_SIX,
+    PUBLISHED,
 ];
 
 /// Plans with S = 1,000 and last r1 = r2 = 60, three and six of seven stages marked.
