@@ -19,7 +19,7 @@ use Rattle.sheetmodel.specs.Contents.{Lot, Contents, history, find}
 use Rattle.sheetmodel.specs.Read.{read}
 use Rattle.sheetmodel.specs.Rows.{row, classes-in}
 use Rattle.sheetmodel.specs.Reply.{done-reply, look-reply}
-use Rattle.sheetmodel.specs.Calls.{corrupt, contents, blank-lot, standing, full, tally-full, sheet-rows, open-rows, open-lot, inspect-rows, inspect, strike-rows, strike, close-rows, close, look-rows, look}
+use Rattle.sheetmodel.specs.Calls.{corrupt, contents, empty-lot, standing, full, tally-full, sheet-rows, open-rows, open-lot, inspect-rows, inspect, strike-rows, strike, close-rows, close, look-rows, look}
 use Rattle.sheetmodel.specs.Estimate.{estimate-rows, estimate}
 use Rattle.sheetmodel.specs.History.{Call, opening, inspecting, striking, closing, looking, call, Histories}
 use Rattle.sheetmodel.specs.Start.{Intact}
@@ -29,7 +29,7 @@ use Rattle.sheetmodel.proofs.Outcomes.{reply-by-rows}
 use Rattle.sheetmodel.proofs.Invariant.{Inv, size-is}
 
 -- the history of the lot that a number finds
-its-history : (o : Option Lot) → history (Option·getD o blank-lot) ≡ Option·getD (Option·map history o) []
+its-history : (o : Option Lot) → history (Option·getD o empty-lot) ≡ Option·getD (Option·map history o) []
 its-history none = refl
 its-history (some l) = refl
 
