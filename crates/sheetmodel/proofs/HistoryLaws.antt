@@ -2,7 +2,7 @@
 -- Assumes nothing.
 use Prim.Native.Nat.{ℕ, _≤_}
 use mathlib.Core.Path.{_≡_, refl, sym, ap, _∙_, subst}
-use mathlib.Core.Bool.{Bool, true, false}
+use mathlib.Core.Bool.{Bool, true, false, true≢false}
 use mathlib.Core.List.{List, [], _∷_, _++_, map, reverse-cons}
 use native.Mathlib.Omega.{arith}
 use lib.ListN.{length, take, length-reverse, length-map, length-append}
@@ -11,10 +11,10 @@ use lib.Dec.{ltb}
 use borrow.Author.Tests.{ltb-true, ltb-false}
 use Rattle.plan.specs.declared.stage.Answer.{Answer}
 use Rattle.plan.specs.declared.stage.Answer.the-variants.{GoOn, Accept, Reject}
-use Rattle.plan.specs.Plan.{Stage}
+use Rattle.plan.specs.Plan.{Stage, stages, admitted}
 use Rattle.plan.specs.Counts.{counts, units}
 use Rattle.plan.specs.Stopping.{earliest}
-use Rattle.plan.proofs.Promise.{counting}
+use Rattle.plan.proofs.Promise.{promise, counting}
 use Rattle.sheetmodel.specs.Contents.{Inspection, Lot, classes}
 use Rattle.sheetmodel.specs.Holds.{Undecided-before, All-undecided-before}
 use Rattle.sheetmodel.specs.History.{without-last}
@@ -40,6 +40,13 @@ pub goes-on : (a : Answer) → undecided a ≡ true → a ≡ GoOn
 goes-on GoOn e = refl
 goes-on Accept e = let z : false ≡ true = e in cc
 goes-on Reject e = let z : false ≡ true = e in cc
+
+-- a decided history has a unit
+pub has-unit : (p : List ℕ) → admitted p ≡ true → (h : List ℕ) → undecided (earliest (stages p) (counts h)) ≡ false → 1 ≤ length h
+has-unit p a [] u =
+    let z : true ≡ false = rw (counting .empty, promise p a .empty) at u in
+    absurd (true≢false z)
+has-unit p a (x ∷ h) u = omega arith
 
 module _ (p : List Stage) where
   pub one-more : (h : List ℕ) (c : ℕ) → earliest p (counts h) ≡ GoOn → Undecided-before p h → Undecided-before p (h ++ (c ∷ []))

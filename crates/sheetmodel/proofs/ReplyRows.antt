@@ -29,7 +29,7 @@ use Rattle.sheetmodel.proofs.Outcomes.{reply-by-rows}
 use Rattle.sheetmodel.proofs.Invariant.{Inv, size-is}
 
 -- the history of the lot that a number finds
-its-history : (o : Option Lot) → history (Option·getD o empty-lot) ≡ Option·getD (Option·map history o) []
+pub its-history : (o : Option Lot) → history (Option·getD o empty-lot) ≡ Option·getD (Option·map history o) []
 its-history none = refl
 its-history (some l) = refl
 

@@ -36,7 +36,7 @@ pub enum Tallied {
     Refused(u32),
 }
 
-// Of each class, the units before the last, and how many these are.
+// Of each class, the units that count, and how many these are; at least one.
 pub struct Estimate {
     pub good: u64,
     pub marginal: u64,
