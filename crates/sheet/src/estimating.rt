@@ -1,4 +1,4 @@
-// The call estimate. Document 01, "Lists, events, estimates" and "Refused".
+// The call estimate. Document 01, "Lists, events, estimates" and "Refused"; document 02, change 5.
 use crate::layout::STAGE_COUNT;
 use crate::locating::Located;
 use crate::locating::locate_lot;
@@ -11,7 +11,8 @@ use sheetmodel::Estimated;
 ghost use mathlib.Core.Path.{_≡_};
 ghost use Prim.Native.Nat.{_≤_};
 ghost use Rattle.sheetmodel.specs.Estimate.{estimate};
-ghost use Rattle.sheet.specs.Estimating.{units-of-class, without-unit};
+ghost use Rattle.plan.specs.Counts.{units};
+ghost use Rattle.sheet.specs.Estimating.{units-of-class, without-unit, evidence-counts};
 
 // One unit less of a class.
 fn without_unit(class: u32, c: Counts) -> Counts
@@ -31,7 +32,18 @@ fn without_unit(class: u32, c: Counts) -> Counts
     less
 }
 
-// A decided lot has a newest unit, which is left out.
+// The units that an estimate counts: the only one, else all but the last, which has this class.
+fn evidence(last: u32, c: Counts) -> Counts
+    requires { ⌜ (units c ≤ 1000) × (1 ≤ units-of-class last c) ⌝ }
+    ensures { λ r. ⌜ r ≡ evidence-counts last c ⌝ }
+{
+    if plan::units(c) == 1 {
+        return c;
+    }
+    without_unit(last, c)
+}
+
+// A decided lot has a newest unit.
 pub fn estimate(sheet: &[u32], lot: u32) -> Estimated
     ensures { λ r. ⌜ r ≡ estimate lot (now (sheet .entry)) .reply ⌝ }
 {
@@ -45,7 +57,7 @@ pub fn estimate(sheet: &[u32], lot: u32) -> Estimated
                 return Estimated::Refused(15);
             }
             let newest = field_of(sheet, f.at, 2);
-            let c = without_unit(field_of(sheet, newest, 0), f.counts);
+            let c = evidence(field_of(sheet, newest, 0), f.counts);
             Estimated::Estimate(Estimate {
                 good: c.good as u64,
                 marginal: c.marginal as u64,

@@ -10,11 +10,11 @@ use Rattle.plan.specs.Stopping.{earliest}
 use Rattle.sheetmodel.specs.Layout.{field, newest, plan-words}
 use Rattle.sheetmodel.specs.Read.{undecided}
 use Rattle.sheet.specs.declared.survey.Found.{Found}
-use Rattle.sheet.specs.Estimating.{without-unit}
+use Rattle.sheet.specs.Estimating.{evidence-counts}
 use Rattle.sheet.proofs.Sizes.{short-enough}
 use Rattle.sheet.proofs.LocatedFacts.{With-lot, with-lot}
 use Rattle.sheet.proofs.CallSteps.{long, lot-inside, answer-requires}
-use Rattle.sheet.proofs.EstimateSteps.{estimate-refused, estimate-undecided, estimate-stages, estimate-requires, newest-unit, older-few, estimate-granted}
+use Rattle.sheet.proofs.EstimateSteps.{estimate-refused, estimate-undecided, estimate-stages, newest-unit, evidence-requires, evidence-few, estimate-granted}
 use Rattle.sheet.proofs.estimating.estimate.Statement.{statement}
 use Rattle.sheet.proofs.estimating.estimate.Tie as tie
 
@@ -65,23 +65,23 @@ field-of-requires-2 c κs =
     let k = d .before .before .before in
     rw (c .field-of .ensures) (omega (arith, newest-unit (lot-of k) (words k) (found k) (facts k) (decided d) .inside), short-enough (words k) (facts k .size))
 
-without-unit-requires : tie.Need-without-unit-requires
-without-unit-requires c κs =
+evidence-asks : tie.Need-evidence-requires
+evidence-asks c κs =
     let d = c .before .before .before .before in
     let k = d .before .before .before in
-    rw (c .field-of2 .ensures, c .before .field-of .ensures) (estimate-requires (lot-of k) (words k) (found k) (facts k) (decided d))
+    rw (c .field-of2 .ensures, c .before .field-of .ensures) (evidence-requires (lot-of k) (words k) (found k) (facts k) (decided d))
 
--- the counts before the last unit
-older : (c : tie.After-without-unit) → let k = c .before .before .before .before .before .before .before .before in
-    c .without-unit .result ≡ without-unit (field (words k) (newest (words k) (found k .at)) 0) (found k .counts)
-older c = rw (sym (c .before .before .field-of .ensures), sym (c .before .field-of2 .ensures)) (c .without-unit .ensures)
+-- the counts of the evidence
+counted : (c : tie.After-evidence) → let k = c .before .before .before .before .before .before .before .before in
+    c .evidence .result ≡ evidence-counts (field (words k) (newest (words k) (found k .at)) 0) (found k .counts)
+counted c = rw (sym (c .before .before .field-of .ensures), sym (c .before .field-of2 .ensures)) (c .evidence .ensures)
 
 units-requires : tie.Need-units-requires
 units-requires c κs =
     let o = c .before .before .before in
     let d = o .before .before .before .before .before in
     let k = d .before .before .before in
-    rw (older o) (older-few (lot-of k) (words k) (found k) (facts k) (decided d))
+    rw (counted o) (evidence-few (lot-of k) (words k) (found k) (facts k) (decided d))
 
 returns-3 : tie.Need-returns-3
 returns-3 c =
@@ -94,7 +94,7 @@ returns-4 c =
     let o = c .before .before .before .before in
     let d = o .before .before .before .before .before in
     let k = d .before .before .before in
-    rw (estimate-granted (lot-of k) (words k) (found k) (facts k) (decided d) (o .before .before .before .if2 .left) (o .without-unit .result) (older o))
+    rw (estimate-granted (lot-of k) (words k) (found k) (facts k) (decided d) (o .before .before .before .if2 .left) (o .evidence .result) (counted o))
     (rw (c .units .ensures) refl)
 
 pub estimate-spec : {M : Type 1} → statement M
@@ -111,7 +111,7 @@ estimate-spec =
     returns-2
     field-of-requires
     field-of-requires-2
-    without-unit-requires
+    evidence-asks
     (λ c. search needs)
     (λ c. search needs)
     (λ c. search needs)
