@@ -1,5 +1,6 @@
--- The number 0 is returned exactly when the call is granted. Assumes nothing.
-use mathlib.Core.Path.{refl, ap}
+-- The number 0 is returned exactly when the call is granted, and then an estimate's denominator is not 0. Assumes nothing.
+use Prim.Native.Nat.{_≤_}
+use mathlib.Core.Path.{_≡_, refl, ap, _∙_}
 use mathlib.Core.Logic.{_≢_}
 use Rattle.plan.specs.Reply.{Reply, granted, refused}
 use Rattle.sheetmodel.specs.declared.reply.Done.{Done}
@@ -10,11 +11,15 @@ use Rattle.sheetmodel.specs.declared.reply.Tallied.{Tallied}
 use Rattle.sheetmodel.specs.declared.reply.Tallied.the-variants as tallied
 use Rattle.sheetmodel.specs.declared.reply.Estimated.{Estimated}
 use Rattle.sheetmodel.specs.declared.reply.Estimated.the-variants as estimated
+use Rattle.sheetmodel.specs.Layout.{word}
 use Rattle.sheetmodel.specs.Reply.{done-reply, look-reply, tally-reply, estimate-reply}
+use Rattle.sheetmodel.specs.Estimate.{estimate}
 use Rattle.sheetmodel.proofs.Demand1.{demand-1}
+use Rattle.sheetmodel.proofs.Estimate.{estimate-laws}
 use Rattle.judge.proofs.Laws.{refused-rightly}
 use Rattle.chance.proofs.Laws.{refusal-law, lot-refusal-law}
-use Rattle.export.specs.Laws.{Zero-exactly, Zero-law}
+use Rattle.export.specs.Returned.{number, left}
+use Rattle.export.specs.Laws.{Zero-exactly, Zero-law, Denominator-law}
 
 -- ---- an answer that is no refusal with the number 0
 
@@ -55,3 +60,10 @@ zero-law = record {
   charting = λ p w n. of-reply _ (refusal-law p w n .1 .never-zero);
   lot-chance = λ p lot n. of-reply _ (lot-refusal-law p lot n .never-zero);
 }
+
+pub denominator-law : Denominator-law
+denominator-law n w out = go (estimate n w .reply) refl
+  where
+    go : (r : Estimated) → estimate n w .reply ≡ r → number (estimate-reply r) ≡ 0 → 1 ≤ word (left (estimate-reply r) out) 3
+    go (estimated.Estimate e) given zero = estimate-laws .granted n w e given .at-least-one
+    go (estimated.Refused m) given zero = absurd (demand-1 w .estimating n .by-rows .never-zero (given ∙ ap estimated.Refused zero))

@@ -1,10 +1,11 @@
--- The number 0 is returned exactly when the call is granted: no refusal has that number. A statement alone; proofs/Laws.antt
--- proves it.
-use Prim.Native.Nat.{ℕ}
+-- The number 0 is returned exactly when the call is granted: no refusal has that number. Then an estimate's denominator is not 0.
+-- Statements alone; proofs/Laws.antt proves them.
+use Prim.Native.Nat.{ℕ, _≤_}
 use mathlib.Core.Path.{_≡_}
 use mathlib.Core.Logic.{_↔_}
 use mathlib.Core.List.{List}
 use Rattle.plan.specs.Reply.{Reply, granted, refused}
+use Rattle.sheetmodel.specs.Layout.{word}
 use Rattle.sheetmodel.specs.Reply.{done-reply, look-reply, tally-reply, estimate-reply}
 use Rattle.sheetmodel.specs.Calls.{fresh, open-lot, inspect, strike, close, look, tally}
 use Rattle.sheetmodel.specs.Estimate.{estimate}
@@ -12,7 +13,7 @@ use Rattle.judge.specs.Judge.{judged, judge-reply}
 use Rattle.chance.specs.declared.mean.Weights.{Weights}
 use Rattle.chance.specs.Reply.{bounds-reply, chart-reply, chance-answer, chart-answer}
 use Rattle.chance.specs.Lot.{lot-answer}
-use Rattle.export.specs.Returned.{number}
+use Rattle.export.specs.Returned.{number, left}
 
 abbrev pub Granted : Reply → Type 0
 Granted (granted values) = Unit {0}
@@ -35,3 +36,7 @@ pub record Zero-law : Type 0 where
   pub chance : (p : List ℕ) (w : Weights) (n : ℕ) → Zero-exactly (bounds-reply (chance-answer p w n))
   pub charting : (p : List ℕ) (w : Weights) (n : ℕ) → Zero-exactly (chart-reply (chart-answer p w n))
   pub lot-chance : (p : List ℕ) (lot : Weights) (n : ℕ) → Zero-exactly (bounds-reply (lot-answer p lot n))
+
+-- where 0 is returned for an estimate, the last number in `out` is at least 1, so that a caller may divide by it
+abbrev pub Denominator-law : Type 0
+Denominator-law = (n : ℕ) (w out : List ℕ) → number (estimate-reply (estimate n w .reply)) ≡ 0 → 1 ≤ word (left (estimate-reply (estimate n w .reply)) out) 3
