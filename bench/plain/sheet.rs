@@ -345,8 +345,11 @@ pub fn estimate(words: &[u32], number: u32) -> Result<[u64; 4], u32> {
     if survey.stages > 1 {
         return Err(15);
     }
-    let last = Packed::of(words[lot.newest as usize * 4]);
-    let before = lot.packed.minus(last).counts();
-    let [good, marginal, bad] = before.classes().map(u64::from);
-    Ok([good, marginal, bad, u64::from(before.units)])
+    let mut evidence = lot.packed;
+    if evidence.counts().units > 1 {
+        evidence = evidence.minus(Packed::of(words[lot.newest as usize * 4]));
+    }
+    let counts = evidence.counts();
+    let [good, marginal, bad] = counts.classes().map(u64::from);
+    Ok([good, marginal, bad, u64::from(counts.units)])
 }
