@@ -125,8 +125,12 @@ impl Histories {
         if self.plan.stages.len() > 1 {
             return Err(15);
         }
-        let before = &history[..history.len() - 1];
-        Ok([&counts(before)[..], &[before.len() as u64]].concat())
+        // Those before the last; with none before it, the only unit (02, change 5).
+        let counted = match &history[..] {
+            [before @ .., _] if !before.is_empty() => before,
+            only => only,
+        };
+        Ok([&counts(counted)[..], &[counted.len() as u64]].concat())
     }
 }
 

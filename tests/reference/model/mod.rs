@@ -1,4 +1,4 @@
-//! What 01 says, and changes 1, 2 and 4 of 02. Change 3 is about time alone.
+//! What 01 says, and changes 1, 2, 4 and 5 of 02. Change 3 is about time alone.
 //!
 //! - "Plan", "Four ways to stop": class, plan, earliest, judge.
 //! - "Lists, events, estimates", "Chance of acceptance": judge, chance,

@@ -166,7 +166,7 @@ impl Sheet {
         Ok(self.words[CLOSED_LOTS..TOTALS_END].to_vec())
     }
 
-    /// Good, marginal, bad among the units before the last, and their number.
+    /// Good, marginal, bad among the units that are counted, and their number.
     pub fn estimate(&mut self, number: u32) -> Reply<Vec<u32>> {
         let chains = self.chains()?;
         let lot = chains.lot(number).ok_or(6_u32)?;
@@ -176,8 +176,15 @@ impl Sheet {
         if chains.judging.plan.stages.len() > 1 {
             return Err(15);
         }
-        let before = &lot.classes[..lot.classes.len() - 1];
-        let [good, marginal, bad] = counts(before);
-        Ok(vec![good, marginal, bad, before.len() as u32])
+        let counted = counted(&lot.classes);
+        let [good, marginal, bad] = counts(counted);
+        Ok(vec![good, marginal, bad, counted.len() as u32])
     }
+}
+
+/// The units of a decided lot that its estimate counts: those before the last, or the
+/// only one (02, change 5). No lot is decided without a unit.
+fn counted(classes: &[u8]) -> &[u8] {
+    let before_last = classes.len() - 1;
+    &classes[..before_last.max(1)]
 }
