@@ -10,6 +10,7 @@ use super::random::Random;
 use super::sheet_script::Script;
 use crate::lines::plan_lines::classes;
 use crate::lines::sheet_lines::call_line;
+use crate::model::class::BLANK;
 use crate::model::layout::*;
 use crate::model::plan::MOST_UNITS;
 
@@ -24,7 +25,8 @@ const LISTS_OF_A: &str = ".3 .33 .333 .0003 .3000 .0300 .0030 .33000 .30300 .000
 const OF_TWO: &str = ".3 .33 .30 .03 .32 .23";
 const OF_THREE: &str = ".303 .033 .330 .203 .302 .313";
 
-fn lists(text: &str) -> impl Iterator<Item = Vec<u8>> + '_ {
+/// Lists parted by a space.
+pub fn lists(text: &str) -> impl Iterator<Item = Vec<u8>> + '_ {
     let list = |list| classes(list).expect("a list is a dot and classes");
     text.split(' ').map(list)
 }
@@ -47,13 +49,7 @@ impl Script {
 
     /// These calls after each unit, then close and tally.
     fn watched(&mut self, lot: u32, list: &[u8], calls: &[&str]) {
-        self.line(&format!("o {lot}"));
-        for class in list {
-            self.line(&format!("i {lot} {class}"));
-            for call in calls {
-                self.line(&format!("{call} {lot}"));
-            }
-        }
+        self.unit_by_unit(lot, list, calls);
         self.lines(&format!("c {lot}, t"));
     }
 
@@ -150,19 +146,9 @@ impl Script {
         );
     }
 
-    /// A sheet of the greatest size full of lots of one blank, written in few lines. They
-    /// take two records each, and one is left.
     fn full_of_blank_lots(&mut self) {
-        let lots = (records(MOST_WORDS) - FIRST_RECORD as usize) / 2;
-        let (less, more, two) = (lots - 1, lots + 1, 2 * RECORD_WORDS);
-        self.fresh(MOST_WORDS, 0, UNIT);
-        self.lines(&format!("p next-unused @{}, p first-lot @0", 2 * lots));
-        self.line(&format!("a @0.0 {two} {lots} 1 1"));
-        self.line(&format!("a @0.1 {two} {less} @2 2"));
-        self.line(&format!("a @0.2 {two} {lots} @1 2"));
-        self.line(&format!("a @1.0 {two} {lots} 3 0"));
-        self.line(&format!("a @1.2 {two} {lots} @0 2"));
-        self.line(&format!("a @1.3 {two} {lots} 1 0"));
+        let lots = self.full_of_only_units(BLANK);
+        let more = lots + 1;
         self.lines(&format!(
             "t, l 1, l {lots}, e 9, i 9 3, o {more}, i {more} 3"
         ));
@@ -194,9 +180,7 @@ impl Script {
         let lot = u32::MAX;
         for (marginal, bad) in [(49, 10), (59, 0)] {
             self.fresh(room(1003), 0, LARGEST[0]);
-            self.lines(&format!("o {lot}, p next-unused @1000, p @0.2 @999"));
-            self.lines("a @1.0 record 999 0 0, a @2.1 record 998 @1 1");
-            self.lines("a @1.2 record 999 @0 0, a @1.3 record 999 1 1");
+            self.long_lot(lot);
             self.line(&format!("a @1.0 record {marginal} 3 0"));
             self.line(&format!("a @100.0 record {bad} 2 0"));
             self.lines(&format!("l {lot}, e {lot}, c {lot}"));

@@ -73,7 +73,7 @@ impl Script {
     }
 
     /// Writes the words of a plan with as many stages as the one in the head.
-    fn put_stages(&mut self, plan: &[u32]) {
+    pub fn put_stages(&mut self, plan: &[u32]) {
         for (index, &word) in (STAGES..).zip(plan) {
             if self.words()[index] != word {
                 self.put(index, word);

@@ -8,6 +8,7 @@
 //! - Listed place by place: stop_places, stop_stages, sooner_stops.
 //! - With blanks: blanks, which makes them; blank_lists, blank_stops; blank_sheets,
 //!   blank_refusals; blank_script.
+//! - Estimates of lots that have one unit: only_units.
 
 pub mod blank_lists;
 pub mod blank_refusals;
@@ -25,6 +26,7 @@ pub mod marked_cases;
 pub mod marked_edges;
 pub mod marked_plans;
 pub mod marked_sheets;
+pub mod only_units;
 pub mod plan_cases;
 pub mod plan_edges;
 pub mod published;

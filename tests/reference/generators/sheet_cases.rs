@@ -1,6 +1,7 @@
 //! The seeded lists of commands on sheets: hand-written ones, then random ones.
 //! sheet_damage.rs has those that damage a sheet between two calls, marked_sheets.rs
-//! those with marked stages, blank_sheets.rs and blank_refusals.rs those with blanks.
+//! those with marked stages, blank_sheets.rs and blank_refusals.rs those with blanks,
+//! only_units.rs those with estimates of lots that have one unit.
 
 use super::draw;
 use super::hand_written::{runs, A, B, LARGEST, ONE, SEVEN, THREE, TWO, UNIT, WRAPS};
@@ -82,6 +83,7 @@ pub fn all() -> Vec<String> {
     script.marked_plans();
     script.blank_sheets();
     script.blank_refusals();
+    script.only_units();
     script.finish()
 }
 
@@ -90,6 +92,13 @@ pub fn blanks() -> Vec<String> {
     let mut script = Script::new(SEED);
     script.blank_sheets();
     script.blank_refusals();
+    script.finish()
+}
+
+/// The lines of only_units.rs alone.
+pub fn only_units() -> Vec<String> {
+    let mut script = Script::new(SEED);
+    script.only_units();
     script.finish()
 }
 
@@ -268,9 +277,7 @@ impl Script {
         let lot = u32::MAX;
         for length in [MOST_WORDS, room(1003)] {
             self.fresh(length, 0, LARGEST[0]);
-            self.lines(&format!("o {lot}, p next-unused @1000, p @0.2 @999"));
-            self.lines("a @1.0 record 999 0 0, a @2.1 record 998 @1 1");
-            self.lines("a @1.2 record 999 @0 0, a @1.3 record 999 1 1");
+            self.long_lot(lot);
             self.lines(&format!("l {lot}, t, a @1.0 record 59 2 0"));
             self.lines(&format!("l {lot}, c {lot}, e {lot}, i {lot} 1, i {lot} 0"));
             self.lines(&format!("l {lot}, e {lot}, c {lot}, t, l {lot}"));

@@ -58,6 +58,25 @@ impl Script {
         }
     }
 
+    /// Alike, with these calls after each unit.
+    pub fn unit_by_unit(&mut self, lot: u32, list: &[u8], calls: &[&str]) {
+        self.line(&format!("o {lot}"));
+        for class in list {
+            self.line(&format!("i {lot} {class}"));
+            for call in calls {
+                self.line(&format!("{call} {lot}"));
+            }
+        }
+    }
+
+    /// Opens a lot on a sheet of zeros and writes 999 good units of it: so many calls
+    /// would take too long.
+    pub fn long_lot(&mut self, lot: u32) {
+        self.lines(&format!("o {lot}, p next-unused @1000, p @0.2 @999"));
+        self.lines("a @1.0 record 999 0 0, a @2.1 record 998 @1 1");
+        self.lines("a @1.2 record 999 @0 0, a @1.3 record 999 1 1");
+    }
+
     /// Each call, with numbers that break rules of 01 "Refused" too.
     pub fn each_call(&mut self, lot: u32) {
         self.lines("t, o 0, i 0 4");
