@@ -3,8 +3,10 @@
 mod blank_coverage;
 mod blank_selftest;
 mod chance_selftest;
+mod estimate_selftest;
 mod lot_chance_selftest;
 mod marked_selftest;
+mod only_unit_coverage;
 mod places_met;
 mod plan_selftest;
 mod sheet_histories;
@@ -37,6 +39,10 @@ pub fn selftest() -> Result<(), String> {
     eprintln!("selftest passed: {lists} lists for {places} places of stops meet them all");
     let [lines, places] = blank_coverage::run()?;
     eprintln!("selftest passed: {lines} lines for {places} places of blanks meet them all");
+    let [plans, lots] = estimate_selftest::run(6)?;
+    eprintln!("selftest passed: {lots} lots of {plans} one-stage plans, estimates by their paths");
+    let [lines, places] = only_unit_coverage::run()?;
+    eprintln!("selftest passed: {lines} lines for {places} places of only units meet them all");
     Ok(())
 }
 
