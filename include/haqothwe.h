@@ -115,8 +115,10 @@ uint32_t haq_look(const uint32_t *sheet, size_t n, uint32_t lot, uint32_t out[6]
    units. Refusals 1, 3. */
 uint32_t haq_tally(const uint32_t *sheet, size_t n, uint32_t out[5]);
 
-/* The estimate of a decided lot: good, marginal, bad among the units before the
-   last, and the denominator, which is their number. Refusals 1, 3, 6, 10, 15. */
+/* The estimate of a decided lot: good, marginal, bad and the denominator. A lot's
+   only unit is counted; of several, all but the last. In a granted estimate the
+   three add to the denominator, which is at least 1, so that nobody divides by 0.
+   Refusals 1, 3, 6, 10, 15. */
 uint32_t haq_estimate(const uint32_t *sheet, size_t n, uint32_t lot, uint64_t out[4]);
 
 /* Judges a list of classes four ways: stop (0 if not reached) and state of

@@ -68,6 +68,8 @@ globals().update((kind.__name__, kind) for kind in REFUSALS.values())
 # The blanks, units of class 3, are among the marginal too.
 Look = namedtuple("Look", "state units good marginal bad blanks")
 Tally = namedtuple("Tally", "accepted rejected good marginal bad")
+# The units counted, by class: a lot's only unit, or all but its last. They add to the denominator,
+# which is at least 1.
 Estimate = namedtuple("Estimate", "good marginal bad denominator")
 Judgement = namedtuple("Judgement", "uncurtailed semi full earliest event")
 

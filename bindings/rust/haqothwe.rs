@@ -111,6 +111,8 @@ pub struct Tally {
     pub bad: u32,
 }
 
+/// The units counted, by class: a lot's only unit, or all but its last. They add to the
+/// denominator, which is at least 1.
 #[repr(C)]
 #[derive(Clone, Copy, Debug, Default, PartialEq, Eq)]
 pub struct Estimate {
