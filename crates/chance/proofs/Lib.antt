@@ -16,4 +16,8 @@ mod Draws
 mod LotLaw
 mod Certain
 mod LotReplies
+mod StopUnits
+mod UnitsLaw
+mod OneClass
+mod UnitsReplies
 pub mod Laws

@@ -6,9 +6,17 @@ use Prim.Native.Nat.{ℕ, _*_, _^_}
 use lib.IntN.{pos}
 use lib.Ieee.{Float, nan, inf, fin, binary64, up, down, div, ofInt}
 
--- the float that dividing the float x by the float 2 ^ k gives
+-- the float 2 ^ k
+abbrev pub power : ℕ → Float
+power k = fin false 1 (pos k)
+
+-- the float that dividing the float x by another gives
+abbrev pub divided : ℕ → Float → Float
+divided x one = div binary64 (ofInt binary64 (pos x)) one
+
+-- and by the float 2 ^ k
 abbrev pub quotient : ℕ → ℕ → Float
-quotient x k = div binary64 (ofInt binary64 (pos x)) (fin false 1 (pos k))
+quotient x k = divided x (power k)
 
 -- the float's value is x / 2 ^ k, no more and no less: it is no NaN and no infinity, it has no minus sign, and
 -- m * up e / down e = x / 2 ^ k, multiplied out

@@ -4,5 +4,7 @@ pub mod Fraction
 pub mod Layer
 pub mod Reply
 pub mod Lot
+pub mod Units
 pub mod Laws
 pub mod LotLaws
+pub mod UnitsLaws

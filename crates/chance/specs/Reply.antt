@@ -1,6 +1,6 @@
--- What `chance` and `chart` answer, and what they leave of the scratch (01: the bench). Document 01, "Refused" and "Chance of
--- acceptance".
-use Prim.Native.Nat.{ℕ, _*_}
+-- What `chance` and `chart` answer, and what they and the calls on expected units leave of the scratch (01: the bench). Document 01,
+-- "Refused" and "Chance of acceptance".
+use Prim.Native.Nat.{ℕ, _*_, _≤_}
 use mathlib.Core.Path.{_≡_}
 use mathlib.Core.Bool.{false, not, cond, _||_}
 use mathlib.Core.List.{List, [], _∷_}
@@ -18,9 +18,9 @@ use Rattle.chance.specs.declared.answers.Chart.{Chart}
 use Rattle.chance.specs.declared.answers.ChartAnswer.{ChartAnswer}
 use Rattle.chance.specs.declared.answers.ChartAnswer.the-variants as ChartAnswer
 use Rattle.chance.specs.Bounds.{weight-sum, Valuation}
-use Rattle.chance.specs.Chance.{low, high}
+use Rattle.chance.specs.Chance.{scale, low, high}
 use Rattle.chance.specs.Layer.{valuation, valued-bounds}
-use Rattle.chance.specs.Fraction.{quotient, Exactly}
+use Rattle.chance.specs.Fraction.{power, divided, Exactly}
 
 abbrev pub weights-of : ℕ → ℕ → ℕ → Weights
 weights-of w0 w1 w2 = record { good = w0; marginal = w1; bad = w2 }
@@ -67,9 +67,13 @@ refusals plan w n = plan-row plan ∷ weights-row w ∷ scratch-row plan n ∷ [
 abbrev pub bounds-of : List Stage → Weights → Bounds
 bounds-of p w = record { low = low p w; high = high p w }
 
--- bounds divided by 2^k, as floats
+-- bounds divided by a float
+abbrev pub divided-bounds : Float → Bounds → Chart
+divided-bounds one b = record { low = divided (b .low) one; high = divided (b .high) one }
+
+-- and by 2^k
 abbrev pub floats : ℕ → Bounds → Chart
-floats k b = record { low = quotient (b .low) k; high = quotient (b .high) k }
+floats k = divided-bounds (power k)
 
 abbrev pub chart-of : List Stage → Weights → Chart
 chart-of p w = floats 40 (bounds-of p w)
@@ -94,10 +98,24 @@ fitted-words plan n = cond (ltb n (needed plan)) 0 (needed plan)
 unfoldable pub chart-answer : List ℕ → Weights → ℕ → ChartAnswer
 chart-answer plan w n = first-refusal ChartAnswer.Refused (refusals plan w n) (ChartAnswer.Pair (chart-of (stages plan) w))
 
--- the floats of a pair are low / 2^40 and high / 2^40 exactly
+-- the floats of a pair are the bounds divided by 2^k, exactly
+abbrev pub Exact-floats : ℕ → Bounds → ChartAnswer → Type 0
+Exact-floats k b (ChartAnswer.Pair c) = Exactly (c .low) (b .low) k × Exactly (c .high) (b .high) k
+Exact-floats k b (ChartAnswer.Refused number) = Unit {0}
+
+-- those of `chart`, low / 2^40 and high / 2^40
 abbrev pub Exact-chart : List ℕ → Weights → ChartAnswer → Type 0
-Exact-chart plan w (ChartAnswer.Pair c) = Exactly (c .low) (low (stages plan) w) 40 × Exactly (c .high) (high (stages plan) w) 40
-Exact-chart plan w (ChartAnswer.Refused number) = Unit {0}
+Exact-chart plan w = Exact-floats 40 (bounds-of (stages plan) w)
+
+-- an answer's bounds divided by a float, or its refusal
+abbrev pub divided-answer : Float → BoundsAnswer → ChartAnswer
+divided-answer one (BoundsAnswer.Pair b) = ChartAnswer.Pair (divided-bounds one b)
+divided-answer one (BoundsAnswer.Refused n) = ChartAnswer.Refused n
+
+-- its bounds have at most 41 binary digits
+abbrev pub Fits : BoundsAnswer → Type 0
+Fits (BoundsAnswer.Pair b) = (b .low ≤ scale) × (b .high ≤ scale)
+Fits (BoundsAnswer.Refused n) = Unit {0}
 
 -- ---- the scratch
 
@@ -109,6 +127,6 @@ written rows plan = first-refusal (λ number. 0) rows (needed plan)
 abbrev pub Kept : List Refusal → List ℕ → List ℕ → List ℕ → Type 0
 Kept rows plan before after = drop (written rows plan) after ≡ drop (written rows plan) before
 
--- of `chance` and `chart`
+-- of `chance`, `chart`, `units` and `units_chart`
 abbrev pub Keeps : List ℕ → Weights → List ℕ → List ℕ → Type 0
 Keeps plan w before after = Kept (refusals plan w (length before)) plan before after

@@ -1,6 +1,6 @@
-// What the two calls answer. Document 01, "Chance of acceptance".
+// What the calls answer. Document 01, "Chance of acceptance"; document 02, changes 2 and 6.
 
-// Low and high, in units of 2^-40.
+// Low and high: of a chance in units of 2^-40, of the expected number of units in units of 2^-30.
 pub struct Bounds {
     pub low: u64,
     pub high: u64,

@@ -1,5 +1,5 @@
 // Bounds on the chance of acceptance, as whole numbers of 2^-40 and as floats (document 01, "Chance of acceptance"),
-// and on that of a lot of known size (document 02, change 2).
+// on that of a lot of known size (document 02, change 2), and on the expected number of units (change 6).
 // They come by backward induction over layers: a layer has the value of each state that so many units can reach,
 // and stands in a run of words.
 mod acceptance;
@@ -8,6 +8,7 @@ mod backward;
 mod bounding;
 mod charting;
 mod division;
+mod expected_units;
 mod layer;
 mod lot;
 mod mean;
@@ -20,4 +21,6 @@ pub use answers::BoundsAnswer;
 pub use answers::Chart;
 pub use answers::ChartAnswer;
 pub use charting::chart;
+pub use charting::units_chart;
+pub use expected_units::units;
 pub use lot::lot_chance;
