@@ -17,7 +17,7 @@ use Rattle.sheetmodel.specs.Estimate.{estimate}
 use Rattle.sheetmodel.proofs.Demand1.{demand-1}
 use Rattle.sheetmodel.proofs.Estimate.{estimate-laws}
 use Rattle.judge.proofs.Laws.{refused-rightly}
-use Rattle.chance.proofs.Laws.{refusal-law, lot-refusal-law}
+use Rattle.chance.proofs.Laws.{refusal-law, lot-refusal-law, units-refusal-law}
 use Rattle.export.specs.Returned.{number, left}
 use Rattle.export.specs.Laws.{Zero-exactly, Zero-law, Denominator-law}
 
@@ -59,6 +59,8 @@ zero-law = record {
   chance = λ p w n. of-reply _ (refusal-law p w n .0 .never-zero);
   charting = λ p w n. of-reply _ (refusal-law p w n .1 .never-zero);
   lot-chance = λ p lot n. of-reply _ (lot-refusal-law p lot n .never-zero);
+  units = λ p w n. of-reply _ (units-refusal-law p w n .0 .never-zero);
+  units-charting = λ p w n. of-reply _ (units-refusal-law p w n .1 .never-zero);
 }
 
 pub denominator-law : Denominator-law

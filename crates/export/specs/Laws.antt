@@ -13,6 +13,7 @@ use Rattle.judge.specs.Judge.{judged, judge-reply}
 use Rattle.chance.specs.declared.mean.Weights.{Weights}
 use Rattle.chance.specs.Reply.{bounds-reply, chart-reply, chance-answer, chart-answer}
 use Rattle.chance.specs.Lot.{lot-answer}
+use Rattle.chance.specs.Units.{units-answer, units-chart-answer}
 use Rattle.export.specs.Returned.{number, left}
 
 abbrev pub Granted : Reply → Type 0
@@ -36,6 +37,8 @@ pub record Zero-law : Type 0 where
   pub chance : (p : List ℕ) (w : Weights) (n : ℕ) → Zero-exactly (bounds-reply (chance-answer p w n))
   pub charting : (p : List ℕ) (w : Weights) (n : ℕ) → Zero-exactly (chart-reply (chart-answer p w n))
   pub lot-chance : (p : List ℕ) (lot : Weights) (n : ℕ) → Zero-exactly (bounds-reply (lot-answer p lot n))
+  pub units : (p : List ℕ) (w : Weights) (n : ℕ) → Zero-exactly (bounds-reply (units-answer p w n))
+  pub units-charting : (p : List ℕ) (w : Weights) (n : ℕ) → Zero-exactly (chart-reply (units-chart-answer p w n))
 
 -- where 0 is returned for an estimate, the last number in `out` is at least 1, so that a caller may divide by it
 abbrev pub Denominator-law : Type 0

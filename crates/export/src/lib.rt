@@ -8,6 +8,8 @@ mod sheet_calls;
 pub use chances::haq_chance;
 pub use chances::haq_chart;
 pub use chances::haq_lot_chance;
+pub use chances::haq_units;
+pub use chances::haq_units_chart;
 pub use lists::haq_judge;
 pub use sheet_calls::haq_close;
 pub use sheet_calls::haq_estimate;
