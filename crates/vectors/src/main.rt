@@ -19,6 +19,8 @@ fn answer_case(line: &[u8]) {
         b'c' => chances::answer(line, Call::Chance),
         b'f' => chances::answer(line, Call::Chart),
         b'l' => chances::answer(line, Call::Lot),
+        b'u' => chances::answer(line, Call::Units),
+        b'v' => chances::answer(line, Call::UnitsChart),
         _ => bad_line(),
     }
 }
