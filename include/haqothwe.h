@@ -144,6 +144,16 @@ uint32_t haq_chart(const uint32_t *plan, size_t plan_n, uint32_t w0, uint32_t w1
 uint32_t haq_lot_chance(const uint32_t *plan, size_t plan_n, uint32_t good, uint32_t marginal,
                         uint32_t bad, uint64_t *scratch, size_t n, uint64_t out[2]);
 
+/* The expected number of units at the earliest stop (average sample number) lies
+   between low and high, in units of 2^-30: at least 2^30, and at most the sample's
+   size times that. Weights, scratch and refusals as for haq_chance. */
+uint32_t haq_units(const uint32_t *plan, size_t plan_n, uint32_t w0, uint32_t w1, uint32_t w2,
+                   uint64_t *scratch, size_t n, uint64_t out[2]);
+
+/* As haq_units, low and high divided by 2^30 exactly. */
+uint32_t haq_units_chart(const uint32_t *plan, size_t plan_n, uint32_t w0, uint32_t w1,
+                         uint32_t w2, uint64_t *scratch, size_t n, double out[2]);
+
 #ifdef __cplusplus
 }
 #endif

@@ -70,6 +70,10 @@ static void chances(void) {
     if (haq_lot_chance(PLAN, 5, 16, 2, 2, scratch, HAQ_SCRATCH_MOST, bounds) == HAQ_GRANTED)
         printf("lot chance 16 2 2: %" PRIu64 " to %" PRIu64 "\n", bounds[0], bounds[1]);
     done("lot chance 4 0 0", haq_lot_chance(PLAN, 5, 4, 0, 0, scratch, HAQ_SCRATCH_MOST, bounds));
+    if (haq_units(PLAN, 5, 90, 7, 3, scratch, HAQ_SCRATCH_MOST, bounds) == HAQ_GRANTED)
+        printf("units 90 7 3: %" PRIu64 " to %" PRIu64 "\n", bounds[0], bounds[1]);
+    if (haq_units_chart(PLAN, 5, 90, 7, 3, scratch, HAQ_SCRATCH_MOST, chart) == HAQ_GRANTED)
+        printf("units chart 90 7 3: %.12f to %.12f\n", chart[0], chart[1]);
 }
 
 int main(void) {

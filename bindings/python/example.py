@@ -1,6 +1,7 @@
 """One lot from opening to closing, then a list and chances. Its output is bindings/expected."""
 
-from haqothwe import Refused, Sheet, chance, chart, judge, lot_chance
+from haqothwe import (Refused, Sheet, chance, chart, judge, lot_chance, units,
+                      units_chart)
 
 PLAN = [5, 2, 3, 1, 2]
 STATES = ["undecided", "accepted", "rejected"]
@@ -63,6 +64,10 @@ def main():
     low, high = lot_chance(PLAN, [16, 2, 2])
     print(f"lot chance 16 2 2: {low} to {high}")
     done("lot chance 4 0 0", lot_chance, PLAN, [4, 0, 0])
+    low, high = units(PLAN, [90, 7, 3])
+    print(f"units 90 7 3: {low} to {high}")
+    low, high = units_chart(PLAN, [90, 7, 3])
+    print(f"units chart 90 7 3: {low:.12f} to {high:.12f}")
 
 
 main()

@@ -99,6 +99,8 @@ _judge = _function("haq_judge", *_sheet, *_list, ctypes.POINTER(_u32))
 _chance = _function("haq_chance", *_bounds, ctypes.POINTER(_u64))
 _chart = _function("haq_chart", *_bounds, ctypes.POINTER(_f64))
 _lot_chance = _function("haq_lot_chance", *_bounds, ctypes.POINTER(_u64))
+_units = _function("haq_units", *_bounds, ctypes.POINTER(_u64))
+_units_chart = _function("haq_units_chart", *_bounds, ctypes.POINTER(_f64))
 
 
 def _word(number):
@@ -196,3 +198,13 @@ def lot_chance(plan, lot, scratch=SCRATCH_MOST):
     """Low and high in units of 2^-40 for a lot, given its good, marginal and bad units, blanks
     among the marginal."""
     return _pair(_lot_chance, _u64, plan, lot, scratch)
+
+
+def units(plan, weights, scratch=SCRATCH_MOST):
+    """Low and high of the expected number of units at the earliest stop, in units of 2^-30."""
+    return _pair(_units, _u64, plan, weights, scratch)
+
+
+def units_chart(plan, weights, scratch=SCRATCH_MOST):
+    """The same as floats."""
+    return _pair(_units_chart, _f64, plan, weights, scratch)

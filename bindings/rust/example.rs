@@ -3,8 +3,8 @@
 
 mod haqothwe;
 
-use haqothwe::{chance, chart, judge, lot_chance, Reply, Sheet, Stop, SCRATCH_MOST};
-use haqothwe::{ACCEPTED, REJECTED, UNDECIDED};
+use haqothwe::{chance, chart, judge, lot_chance, units, units_chart};
+use haqothwe::{Reply, Sheet, Stop, ACCEPTED, REJECTED, SCRATCH_MOST, UNDECIDED};
 
 const PLAN: &[u32] = &[5, 2, 3, 1, 2];
 
@@ -78,6 +78,10 @@ fn chances() -> Reply<()> {
     let [low, high] = lot_chance(PLAN, [16, 2, 2], scratch)?;
     println!("lot chance 16 2 2: {low} to {high}");
     done("lot chance 4 0 0", lot_chance(PLAN, [4, 0, 0], scratch));
+    let [low, high] = units(PLAN, [90, 7, 3], scratch)?;
+    println!("units 90 7 3: {low} to {high}");
+    let [low, high] = units_chart(PLAN, [90, 7, 3], scratch)?;
+    println!("units chart 90 7 3: {low:.12} to {high:.12}");
     Ok(())
 }
 

@@ -165,6 +165,14 @@ extern "C" {
         plan: *const u32, plan_n: usize, good: u32, marginal: u32, bad: u32,
         scratch: *mut u64, n: usize, out: &mut [u64; 2],
     ) -> u32;
+    fn haq_units(
+        plan: *const u32, plan_n: usize, w0: u32, w1: u32, w2: u32,
+        scratch: *mut u64, n: usize, out: &mut [u64; 2],
+    ) -> u32;
+    fn haq_units_chart(
+        plan: *const u32, plan_n: usize, w0: u32, w1: u32, w2: u32,
+        scratch: *mut u64, n: usize, out: &mut [f64; 2],
+    ) -> u32;
 }
 
 fn reply<T: Default>(call: impl FnOnce(&mut T) -> u32) -> Reply<T> {
@@ -239,4 +247,16 @@ pub fn lot_chance(plan: &[u32], lot: [u32; 3], scratch: &mut [u64]) -> Reply<[u6
     let [good, marginal, bad] = lot;
     let scratch = scratch.as_mut_ptr();
     reply(|out| unsafe { haq_lot_chance(words, k, good, marginal, bad, scratch, n, out) })
+}
+
+/// Low and high of the expected number of units at the earliest stop, in units of 2^-30.
+pub fn units(plan: &[u32], [w0, w1, w2]: [u32; 3], scratch: &mut [u64]) -> Reply<[u64; 2]> {
+    let (words, k, n) = (plan.as_ptr(), plan.len(), scratch.len());
+    reply(|out| unsafe { haq_units(words, k, w0, w1, w2, scratch.as_mut_ptr(), n, out) })
+}
+
+/// The same as floats.
+pub fn units_chart(plan: &[u32], [w0, w1, w2]: [u32; 3], scratch: &mut [u64]) -> Reply<[f64; 2]> {
+    let (words, k, n) = (plan.as_ptr(), plan.len(), scratch.len());
+    reply(|out| unsafe { haq_units_chart(words, k, w0, w1, w2, scratch.as_mut_ptr(), n, out) })
 }
