@@ -146,7 +146,7 @@ fn by_sets(plan: &Plan, lot: Lot) -> Draws {
 const MOST_SETS_OF: u32 = 84;
 
 /// Sets of so many of n units. Each quotient is such a number too.
-fn binomial(n: u32, taken: u32) -> u128 {
+pub fn binomial(n: u32, taken: u32) -> u128 {
     let factors = (0..taken).map(|i| (n.saturating_sub(i), i + 1));
     factors.fold(1, |sets, (more, less)| {
         sets * u128::from(more) / u128::from(less)

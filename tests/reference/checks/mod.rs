@@ -3,6 +3,7 @@
 mod blank_coverage;
 mod blank_selftest;
 mod chance_selftest;
+mod closed_form;
 mod estimate_selftest;
 mod lot_chance_selftest;
 mod marked_selftest;
@@ -12,6 +13,8 @@ mod plan_selftest;
 mod sheet_histories;
 pub mod stats;
 mod stop_coverage;
+mod units_coverage;
+mod units_selftest;
 
 use crate::lines::plan_lines;
 use crate::model::plan_calls::PlanCalls;
@@ -43,6 +46,14 @@ pub fn selftest() -> Result<(), String> {
     eprintln!("selftest passed: {lots} lots of {plans} one-stage plans, estimates by their paths");
     let [lines, places] = only_unit_coverage::run()?;
     eprintln!("selftest passed: {lines} lines for {places} places of only units meet them all");
+    let [plans, alike] = units_selftest::run(800)?;
+    eprintln!(
+        "selftest passed: expected units of {plans} plans by sequences, {alike} by one class"
+    );
+    let [plans, more] = closed_form::run(500)?;
+    eprintln!("selftest passed: {plans} one-stage plans by the closed form, {more} by floats");
+    let [lines, places] = units_coverage::run()?;
+    eprintln!("selftest passed: {lines} lines for {places} places of expected units meet them all");
     Ok(())
 }
 

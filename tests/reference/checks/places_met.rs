@@ -69,7 +69,7 @@ pub fn met(lines: &[String]) -> Result<Places, String> {
 }
 
 /// The stage of a unit: its number from 0, and its first unit's number less 1.
-fn stage_of(plan: &Plan, unit: usize) -> (usize, usize) {
+pub fn stage_of(plan: &Plan, unit: usize) -> (usize, usize) {
     let ends = plan.stages.iter().map(|stage| stage.end as usize);
     let i = ends.filter(|&end| end < unit).count();
     let Stage { end, size, .. } = plan.stages[i];

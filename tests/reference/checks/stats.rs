@@ -2,13 +2,14 @@
 
 use crate::generators::plan_cases;
 use crate::lines::plan_lines::Case;
-use crate::model::chance::{Bounds, UNITS};
+use crate::model::chance::{Bounds, Weights, UNITS};
 use crate::model::class::BLANK;
 use crate::model::earliest::{few_completions, Stop, Table};
 use crate::model::judge::Judgement;
 use crate::model::lot_chance::{self, Lot};
 use crate::model::plan::{broken, Counts, Plan, BOTH, STAGE_WORDS};
 use crate::model::plan_calls::PlanCalls;
+use crate::model::Reply;
 use std::collections::{BTreeMap, HashSet};
 
 /// Counts by a text that says what is counted.
@@ -20,32 +21,7 @@ pub fn write() -> Result<(), String> {
     let mut calls = PlanCalls::default();
     let mut tally = Tally::new();
     for line in &lines {
-        match Case::parse(line)? {
-            Case::Admission(words) => admission(&mut tally, &words),
-            Case::Judged(list, words) => match calls.judge(&list, &words) {
-                Ok(judgement) => judged(&mut tally, &list, &words, &judgement),
-                Err(number) => count(&mut tally, format!("j: refused {number}")),
-            },
-            Case::Chance(call) => match calls.chance(&call) {
-                Ok(bounds) => {
-                    let zeros = zeros(call.weights);
-                    count(&mut tally, format!("c: {zeros} weights of 0"));
-                    chance(&mut tally, "c", &call.words, bounds)
-                }
-                Err(number) => count(&mut tally, format!("c: refused {number}")),
-            },
-            Case::Chart(call) => match calls.chance(&call) {
-                Ok(_) => count(&mut tally, "f: floats".to_string()),
-                Err(number) => count(&mut tally, format!("f: refused {number}")),
-            },
-            Case::LotChance(call) => match calls.lot_chance(&call) {
-                Ok(bounds) => {
-                    lot(&mut tally, call.lot, &call.words);
-                    chance(&mut tally, "l", &call.words, bounds)
-                }
-                Err(number) => count(&mut tally, format!("l: refused {number}")),
-            },
-        }
+        case(&mut tally, &mut calls, Case::parse(line)?);
     }
     eprintln!("{} lines, {bytes} bytes", lines.len());
     for (what, count) in tally {
@@ -54,8 +30,52 @@ pub fn write() -> Result<(), String> {
     Ok(())
 }
 
+fn case(tally: &mut Tally, calls: &mut PlanCalls, case: Case) {
+    match case {
+        Case::Admission(words) => admission(tally, &words),
+        Case::Judged(list, words) => match calls.judge(&list, &words) {
+            Ok(judgement) => judged(tally, &list, &words, &judgement),
+            Err(number) => refused(tally, "j", number),
+        },
+        Case::Chance(call) => match calls.chance(&call) {
+            Ok(bounds) => {
+                weights(tally, "c", call.weights);
+                chance(tally, "c", &call.words, bounds)
+            }
+            Err(number) => refused(tally, "c", number),
+        },
+        Case::Chart(call) => chart(tally, "f", calls.chance(&call)),
+        Case::LotChance(call) => match calls.lot_chance(&call) {
+            Ok(bounds) => {
+                lot(tally, call.lot, &call.words);
+                chance(tally, "l", &call.words, bounds)
+            }
+            Err(number) => refused(tally, "l", number),
+        },
+        Case::ExpectedUnits(call) => match calls.expected_units(&call) {
+            Ok(bounds) => {
+                weights(tally, "u", call.weights);
+                width(tally, "u", &call.words, bounds)
+            }
+            Err(number) => refused(tally, "u", number),
+        },
+        Case::ExpectedUnitsChart(call) => chart(tally, "v", calls.expected_units(&call)),
+    }
+}
+
 fn count(tally: &mut Tally, what: String) {
     *tally.entry(what).or_default() += 1;
+}
+
+fn refused(tally: &mut Tally, kind: &str, number: u32) {
+    count(tally, format!("{kind}: refused {number}"));
+}
+
+fn chart(tally: &mut Tally, kind: &str, reply: Reply<Bounds>) {
+    match reply {
+        Ok(_) => count(tally, format!("{kind}: floats")),
+        Err(number) => refused(tally, kind, number),
+    }
 }
 
 fn admission(tally: &mut Tally, words: &[u32]) {
@@ -136,8 +156,17 @@ fn stop(tally: &mut Tally, list: &[u8], plan: &Plan, stop: Stop) {
     }
 }
 
+/// Low and high of a chance.
+fn chance(tally: &mut Tally, kind: &str, words: &[u32], bounds: Bounds) {
+    width(tally, kind, words, bounds);
+    let [low, high] = bounds;
+    if low > UNITS / 100 && high < UNITS / 100 * 99 {
+        count(tally, format!("{kind}: chance from 0.01 to 0.99"));
+    }
+}
+
 /// Low and high of a line of this kind.
-fn chance(tally: &mut Tally, kind: &str, words: &[u32], [low, high]: Bounds) {
+fn width(tally: &mut Tally, kind: &str, words: &[u32], [low, high]: Bounds) {
     count(tally, format!("{kind}: k = {}", words.len() / STAGE_WORDS));
     let size = match high - low {
         0 => "low = high",
@@ -145,9 +174,11 @@ fn chance(tally: &mut Tally, kind: &str, words: &[u32], [low, high]: Bounds) {
         _ => "high - low from 10",
     };
     count(tally, format!("{kind}: {size}"));
-    if low > UNITS / 100 && high < UNITS / 100 * 99 {
-        count(tally, format!("{kind}: chance from 0.01 to 0.99"));
-    }
+}
+
+fn weights(tally: &mut Tally, kind: &str, weights: Weights) {
+    let zeros = zeros(weights);
+    count(tally, format!("{kind}: {zeros} weights of 0"));
 }
 
 fn zeros(numbers: [u32; 3]) -> usize {

@@ -1,10 +1,11 @@
 //! Inputs for the calls, the same at each run.
 //!
 //! - Hand-written: hand_written, plan_edges, known_lots, published; with marked
-//!   stages marked_plans, marked_edges; for lots of known size sized_lots.
+//!   stages marked_plans, marked_edges; for lots of known size sized_lots; for expected
+//!   units known_units.
 //! - Random: random, draw.
-//! - Made of these: plan_cases, marked_cases and lot_cases; sheet_cases, sheet_damage
-//!   and marked_sheets, by sheet_script; full_sheets; lots_script.
+//! - Made of these: plan_cases, marked_cases, lot_cases and units_cases; sheet_cases,
+//!   sheet_damage and marked_sheets, by sheet_script; full_sheets; lots_script.
 //! - Listed place by place: stop_places, stop_stages, sooner_stops.
 //! - With blanks: blanks, which makes them; blank_lists, blank_stops; blank_sheets,
 //!   blank_refusals; blank_script.
@@ -20,6 +21,7 @@ pub mod draw;
 pub mod full_sheets;
 pub mod hand_written;
 pub mod known_lots;
+pub mod known_units;
 pub mod lot_cases;
 pub mod lots_script;
 pub mod marked_cases;
@@ -38,3 +40,4 @@ pub mod sized_lots;
 pub mod sooner_stops;
 pub mod stop_places;
 pub mod stop_stages;
+pub mod units_cases;

@@ -1,7 +1,7 @@
 //! The seeded cases on plans: hand-written edges, then random plans with their lists and
 //! chances. marked_cases.rs has those with marked stages, lot_cases.rs those on lots of
 //! known size, stop_places.rs those with stops at given places, blank_lists.rs those with
-//! blanks.
+//! blanks, units_cases.rs those on expected units.
 
 use super::hand_written::{runs, A, B, LARGEST, ONE, SEVEN, THREE, TWO, UNIT, WEIGHTS, WRAPS};
 use super::known_lots::{CHANCES, KNOWN, NEAR_A, NEAR_B};
@@ -36,6 +36,7 @@ pub fn all() -> Vec<String> {
     cases.stop_places();
     cases.blank_lists();
     cases.blank_stops();
+    cases.expected_units();
     let mut seen = HashSet::new();
     cases.lines.retain(|line| seen.insert(line.clone()));
     cases.lines
@@ -94,14 +95,18 @@ impl Cases {
         }
     }
 
+    /// A line of this kind with a number for each class.
+    pub fn with_scratch(&mut self, kind: &str, numbers: [u32; 3], scratch: u32, words: &[u32]) {
+        let taken = [&numbers[..], &[scratch], words].concat();
+        self.lines.push(format!("{kind}{}", fields(&taken)));
+    }
+
     pub fn chance(&mut self, weights: Weights, scratch: u32, words: &[u32]) {
-        let taken = [&weights[..], &[scratch], words].concat();
-        self.lines.push(format!("c{}", fields(&taken)));
+        self.with_scratch("c", weights, scratch, words);
     }
 
     fn chart(&mut self, weights: Weights, scratch: u32, words: &[u32]) {
-        let taken = [&weights[..], &[scratch], words].concat();
-        self.lines.push(format!("f{}", fields(&taken)));
+        self.with_scratch("f", weights, scratch, words);
     }
 
     pub fn chance_and_chart(&mut self, weights: Weights, scratch: u32, words: &[u32]) {
@@ -110,8 +115,7 @@ impl Cases {
     }
 
     pub fn lot_chance(&mut self, lot: Lot, scratch: u32, words: &[u32]) {
-        let taken = [&lot[..], &[scratch], words].concat();
-        self.lines.push(format!("l{}", fields(&taken)));
+        self.with_scratch("l", lot, scratch, words);
     }
 
     fn known_lots(&mut self) {

@@ -10,11 +10,15 @@
 //!   same refusals.
 //! - `l`, the good, marginal and bad units of a lot, the words of scratch and plan
 //!   words: low and high, or `no 2`, `no 17`, `no 14` (02, change 2).
+//! - `u` and the fields of `c`: low and high of the expected units in units of 2^-30, or
+//!   `no 2`, `no 13`, `no 14` (02, change 6).
+//! - `v` and the same fields: the bit patterns of their chart's two floats, or the same
+//!   refusals.
 
 use super::reply_text;
-use crate::model::chance;
 use crate::model::plan::Plan;
 use crate::model::plan_calls::{ChanceCall, LotChanceCall, PlanCalls};
+use crate::model::{chance, expected_units};
 
 pub enum Case {
     Admission(Vec<u32>),
@@ -22,6 +26,8 @@ pub enum Case {
     Chance(ChanceCall),
     Chart(ChanceCall),
     LotChance(LotChanceCall),
+    ExpectedUnits(ChanceCall),
+    ExpectedUnitsChart(ChanceCall),
 }
 
 impl Case {
@@ -35,6 +41,8 @@ impl Case {
             ["c", ref call @ ..] => chance_call(call).map(Case::Chance),
             ["f", ref call @ ..] => chance_call(call).map(Case::Chart),
             ["l", ref call @ ..] => lot_chance_call(call).map(Case::LotChance),
+            ["u", ref call @ ..] => chance_call(call).map(Case::ExpectedUnits),
+            ["v", ref call @ ..] => chance_call(call).map(Case::ExpectedUnitsChart),
             _ => None,
         };
         case.ok_or_else(|| format!("not a case: {line}"))
@@ -96,6 +104,11 @@ pub fn answer(calls: &mut PlanCalls, line: &str) -> Result<String, String> {
         Case::Chance(call) => calls.chance(&call).map(Vec::from),
         Case::Chart(call) => calls.chance(&call).map(chance::chart).map(Vec::from),
         Case::LotChance(call) => calls.lot_chance(&call).map(Vec::from),
+        Case::ExpectedUnits(call) => calls.expected_units(&call).map(Vec::from),
+        Case::ExpectedUnitsChart(call) => {
+            let bounds = calls.expected_units(&call);
+            bounds.map(expected_units::chart).map(Vec::from)
+        }
     };
     Ok(reply_text(reply))
 }

@@ -15,6 +15,21 @@ pub type Weights = [u32; 3];
 /// Low and high.
 pub type Bounds = [u64; 2];
 
+/// What the recursion gives: the values of decided points, and what an undecided one
+/// adds to the weighted mean of its successors.
+pub struct Values {
+    pub accepted: u64,
+    pub rejected: u64,
+    pub step: u64,
+}
+
+/// 2^40 once the earliest stop accepts, 0 once it rejects, else the mean alone.
+pub const CHANCE: Values = Values {
+    accepted: UNITS,
+    rejected: 0,
+    step: 0,
+};
+
 #[derive(Clone, Copy)]
 enum Rounding {
     Down,
@@ -37,17 +52,23 @@ pub fn needed(plan: &Plan) -> u64 {
 
 /// The pair before any unit, for weights that don't add to 0.
 pub fn bounds(plan: &Plan, table: &Table, weights: Weights) -> Bounds {
-    bounds_by(plan, table, |_, _| weights)
+    bounds_by(plan, table, CHANCE, |_, _| weights)
 }
 
-/// Alike with the weights of each step, by y and counts; they don't add to 0 before
-/// S units.
-pub fn bounds_by(plan: &Plan, table: &Table, weights: impl Fn(usize, Counts) -> Weights) -> Bounds {
+/// Alike with other values, and with the weights of each step, by y and counts; they
+/// don't add to 0 before S units.
+pub fn bounds_by(
+    plan: &Plan,
+    table: &Table,
+    values: Values,
+    weights: impl Fn(usize, Counts) -> Weights,
+) -> Bounds {
     [Rounding::Down, Rounding::Up].map(|rounding| {
         let cells = (plan.units() as u64 + 1) * needed(plan) / 2;
         let mut recursion = Recursion {
             plan,
             table,
+            values: &values,
             weights: &weights,
             rounding,
             found: vec![None; cells as usize],
@@ -80,6 +101,7 @@ pub fn chart(bounds: Bounds) -> [u64; 2] {
 struct Recursion<'a, W> {
     plan: &'a Plan,
     table: &'a Table,
+    values: &'a Values,
     weights: &'a W,
     rounding: Rounding,
     found: Vec<Option<u64>>,
@@ -88,8 +110,8 @@ struct Recursion<'a, W> {
 impl<W: Fn(usize, Counts) -> Weights> Recursion<'_, W> {
     fn value(&mut self, y: usize, counts: Counts) -> u64 {
         match self.table.at(y, counts) {
-            ACCEPTED => UNITS,
-            REJECTED => 0,
+            ACCEPTED => self.values.accepted,
+            REJECTED => self.values.rejected,
             _ => self.undecided(y, counts),
         }
     }
@@ -110,13 +132,14 @@ impl<W: Fn(usize, Counts) -> Weights> Recursion<'_, W> {
         };
         let products = product(0) + product(1) + product(2);
         let whole = u128::from(sum(weights));
-        let value = match self.rounding {
+        let mean = match self.rounding {
             Rounding::Down => products / whole,
             Rounding::Up => products.div_ceil(whole),
         };
-        // A mean of values is at most the largest of them, 2^40.
-        self.found[cell] = Some(value as u64);
-        value as u64
+        // A mean of values is at most the largest of them.
+        let value = self.values.step + mean as u64;
+        self.found[cell] = Some(value);
+        value
     }
 
     /// A count that reaches a last r is rejected, so undecided ones are below.

@@ -53,7 +53,7 @@ pub fn few_completions(units: usize, y: usize) -> bool {
 
 /// The set of uncurtailed verdicts of all completions of a prefix, those with blanks
 /// too (02, change 4). Once both verdicts are found no further completion can add to it.
-fn verdicts_of_completions(plan: &Plan, prefix: &[u8]) -> u8 {
+pub fn verdicts_of_completions(plan: &Plan, prefix: &[u8]) -> u8 {
     let mut sample = prefix.to_vec();
     sample.resize(plan.units(), 0);
     let mut verdicts = plan.uncurtailed(&sample);

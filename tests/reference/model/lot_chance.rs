@@ -1,7 +1,7 @@
 //! 02, change 2: low and high for a lot of known size, of which S units are drawn
 //! without replacement.
 
-use super::chance::{bounds_by, Bounds, Weights};
+use super::chance::{bounds_by, Bounds, Weights, CHANCE};
 use super::earliest::Table;
 use super::plan::{Counts, Plan, ACCEPTED};
 
@@ -18,7 +18,7 @@ pub fn units(lot: Lot) -> u64 {
 
 /// The pair before any unit, for a lot of at least S units.
 pub fn bounds(plan: &Plan, table: &Table, lot: Lot) -> Bounds {
-    bounds_by(plan, table, |y, counts| left(lot, y, counts))
+    bounds_by(plan, table, CHANCE, |y, counts| left(lot, y, counts))
 }
 
 /// What is left of each class, which is what it weighs.

@@ -1,8 +1,9 @@
-//! What 01 says, and changes 1, 2, 4 and 5 of 02. Change 3 is about time alone.
+//! What 01 says, and changes 1, 2, 4, 5 and 6 of 02. Change 3 is about time alone.
 //!
 //! - "Plan", "Four ways to stop": class, plan, earliest, judge.
 //! - "Lists, events, estimates", "Chance of acceptance": judge, chance,
-//!   lot_chance (02, change 2), and plan_calls, which has their refusals.
+//!   lot_chance (02, change 2), expected_units (02, change 6), and plan_calls, which
+//!   has their refusals.
 //! - "Sheet": layout, chains, sheet, and sheet_call, a call as a value.
 //! - "Program lots": lots.
 
@@ -10,6 +11,7 @@ pub mod chains;
 pub mod chance;
 pub mod class;
 pub mod earliest;
+pub mod expected_units;
 pub mod judge;
 pub mod layout;
 pub mod lot_chance;
