@@ -3,6 +3,7 @@
 use crate::library::{self, Answer, Lent, PATTERN, PATTERN_64};
 use reference::model::chance::{self, Bounds, Weights};
 use reference::model::class::BLANK;
+use reference::model::expected_units;
 use reference::model::lot_chance::Lot;
 use reference::model::plan::Plan;
 use reference::model::plan_calls::{ChanceCall, LotChanceCall, PlanCalls};
@@ -14,7 +15,7 @@ use std::collections::BTreeMap;
 /// An error is a difference.
 pub type Compared = Result<(), String>;
 
-/// A chance, chart or chance of a lot by the library, with a number for each class.
+/// A call of the library on a plan, with a number for each class and a scratch.
 type Call = fn(&[u32], [u32; 3], &mut Lent<u64>) -> Answer;
 
 #[derive(Default)]
@@ -63,19 +64,26 @@ impl Comparer {
         self.same("judge", &answer, reply, what)
     }
 
-    /// Chance and chart, with a scratch of so many words.
-    pub fn chance(&mut self, plan: &[u32], weights: Weights, scratch: usize) -> Compared {
-        let bounds = self.calls.chance(&ChanceCall {
+    /// Chance, expected units and their charts, with a scratch of so many words.
+    pub fn with_weights(&mut self, plan: &[u32], weights: Weights, scratch: usize) -> Compared {
+        let call = ChanceCall {
             weights,
             scratch: scratch as u32,
             words: plan.to_vec(),
-        });
-        let chances: [(_, Call, fn(Bounds) -> Bounds); 2] = [
-            ("chance", library::chance, |bounds| bounds),
-            ("chart", library::chart, chance::chart),
+        };
+        let chance = self.calls.chance(&call);
+        let units = self.calls.expected_units(&call);
+        let calls: [(_, Call, Reply<Bounds>); 4] = [
+            ("chance", library::chance, chance),
+            ("chart", library::chart, chance.map(chance::chart)),
+            ("units", library::units, units),
+            (
+                "units_chart",
+                library::units_chart,
+                units.map(expected_units::chart),
+            ),
         ];
-        for (function, call, values) in chances {
-            let reply = bounds.map(values);
+        for (function, call, reply) in calls {
             self.with_scratch(function, call, plan, weights, scratch, reply)?;
         }
         Ok(())

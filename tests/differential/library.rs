@@ -46,6 +46,26 @@ extern "C" {
         n: usize,
         out: *mut u64,
     ) -> u32;
+    fn haq_units(
+        plan: *const u32,
+        plan_n: usize,
+        w0: u32,
+        w1: u32,
+        w2: u32,
+        scratch: *mut u64,
+        n: usize,
+        out: *mut u64,
+    ) -> u32;
+    fn haq_units_chart(
+        plan: *const u32,
+        plan_n: usize,
+        w0: u32,
+        w1: u32,
+        w2: u32,
+        scratch: *mut u64,
+        n: usize,
+        out: *mut f64,
+    ) -> u32;
 }
 
 /// Elements before and after a run.
@@ -156,36 +176,59 @@ pub fn judge(plan: &[u32], list: &[u8]) -> Answer {
     answer
 }
 
-pub fn chance(plan: &[u32], [w0, w1, w2]: Weights, scratch: &mut Lent<u64>) -> Answer {
+/// A call on a plan, with a scratch, that writes two long words or floats to out.
+fn with_scratch(
+    name: &str,
+    plan: &[u32],
+    scratch: &mut Lent<u64>,
+    call: impl FnOnce(*const u32, usize, *mut u64, usize, *mut u64) -> u32,
+) -> Answer {
     let mut plan = Lent::new(plan, PATTERN);
     let (words, k, n) = (plan.pointer(), plan.len(), scratch.len());
     let lent = scratch.pointer();
-    let answer = with_long_words(2, |out| unsafe {
-        haq_chance(words, k, w0, w1, w2, lent, n, out)
-    });
-    assert!(plan.kept(), "chance wrote to its plan");
+    let answer = with_long_words(2, |out| call(words, k, lent, n, out));
+    assert!(plan.kept(), "{name} wrote to its plan");
     answer
+}
+
+pub fn chance(plan: &[u32], [w0, w1, w2]: Weights, scratch: &mut Lent<u64>) -> Answer {
+    with_scratch("chance", plan, scratch, |plan, k, lent, n, out| unsafe {
+        haq_chance(plan, k, w0, w1, w2, lent, n, out)
+    })
 }
 
 /// The floats' bit patterns.
 pub fn chart(plan: &[u32], [w0, w1, w2]: Weights, scratch: &mut Lent<u64>) -> Answer {
-    let mut plan = Lent::new(plan, PATTERN);
-    let (words, k, n) = (plan.pointer(), plan.len(), scratch.len());
-    let lent = scratch.pointer();
-    let answer = with_long_words(2, |out| unsafe {
-        haq_chart(words, k, w0, w1, w2, lent, n, out.cast())
-    });
-    assert!(plan.kept(), "chart wrote to its plan");
-    answer
+    with_scratch("chart", plan, scratch, |plan, k, lent, n, out| unsafe {
+        haq_chart(plan, k, w0, w1, w2, lent, n, out.cast())
+    })
 }
 
 pub fn lot_chance(plan: &[u32], [good, marginal, bad]: Lot, scratch: &mut Lent<u64>) -> Answer {
-    let mut plan = Lent::new(plan, PATTERN);
-    let (words, k, n) = (plan.pointer(), plan.len(), scratch.len());
-    let lent = scratch.pointer();
-    let answer = with_long_words(2, |out| unsafe {
-        haq_lot_chance(words, k, good, marginal, bad, lent, n, out)
-    });
-    assert!(plan.kept(), "lot_chance wrote to its plan");
-    answer
+    with_scratch(
+        "lot_chance",
+        plan,
+        scratch,
+        |plan, k, lent, n, out| unsafe {
+            haq_lot_chance(plan, k, good, marginal, bad, lent, n, out)
+        },
+    )
+}
+
+pub fn units(plan: &[u32], [w0, w1, w2]: Weights, scratch: &mut Lent<u64>) -> Answer {
+    with_scratch("units", plan, scratch, |plan, k, lent, n, out| unsafe {
+        haq_units(plan, k, w0, w1, w2, lent, n, out)
+    })
+}
+
+/// The floats' bit patterns.
+pub fn units_chart(plan: &[u32], [w0, w1, w2]: Weights, scratch: &mut Lent<u64>) -> Answer {
+    with_scratch(
+        "units_chart",
+        plan,
+        scratch,
+        |plan, k, lent, n, out| unsafe {
+            haq_units_chart(plan, k, w0, w1, w2, lent, n, out.cast())
+        },
+    )
 }

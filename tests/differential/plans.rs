@@ -1,5 +1,5 @@
-//! Plans, lists and weights: judge, chance, chart, and fresh with each plan. Words that
-//! are no plan are also given with a lot.
+//! Plans, lists and weights: judge, chance and expected units with their charts, and
+//! fresh with each plan. Words that are no plan are also given with a lot.
 
 use crate::compare::{needed, Compared, Comparer};
 use crate::library::PATTERN;
@@ -49,14 +49,15 @@ fn stored_cases(comparer: &mut Comparer) -> Compared {
         match Case::parse(&line)? {
             Case::Admission(words) => plan(comparer, &words)?,
             Case::Judged(list, words) => comparer.judge(&words, &list)?,
-            Case::Chance(call) => {
-                comparer.chance(&call.words, call.weights, call.scratch as usize)?
+            Case::Chance(call)
+            | Case::Chart(call)
+            | Case::ExpectedUnits(call)
+            | Case::ExpectedUnitsChart(call) => {
+                comparer.with_weights(&call.words, call.weights, call.scratch as usize)?
             }
             Case::LotChance(call) => {
                 comparer.lot_chance(&call.words, call.lot, call.scratch as usize)?
             }
-            // Each chart is compared with its chance, and most have a line of both.
-            Case::Chart(_) => {}
         }
     }
     Ok(())
@@ -74,8 +75,8 @@ fn plan(comparer: &mut Comparer, words: &[u32]) -> Compared {
         comparer.on_sheet(&SheetCall::Tally)?;
     }
     if Plan::admitted(words).is_none() {
-        comparer.chance(words, [1, 1, 1], MOST_SCRATCH as usize)?;
-        comparer.chance(words, [0, 0, 0], 0)?;
+        comparer.with_weights(words, [1, 1, 1], MOST_SCRATCH as usize)?;
+        comparer.with_weights(words, [0, 0, 0], 0)?;
         comparer.lot_chance(words, [800, 100, 100], MOST_SCRATCH as usize)?;
         comparer.lot_chance(words, [0, 0, 0], 0)?;
         comparer.lot_chance(words, [u32::MAX, 1, 1_000], 1)?;
@@ -232,12 +233,12 @@ fn weights_and_scratch(comparer: &mut Comparer, random: &mut Random) -> Compared
         for &weights in WEIGHTS.iter().chain(&more) {
             let scratch =
                 random.pick(&[0, exact / 2, exact - 1, exact, exact, exact + 1, exact + 50]);
-            comparer.chance(&words, weights, scratch)?;
+            comparer.with_weights(&words, weights, scratch)?;
         }
         let most = MOST_SCRATCH as usize;
         for scratch in [0, 1, exact - 1, exact, exact + 1, most, most + 1] {
             let weights = draw::weights(random, &plan);
-            comparer.chance(&words, weights, scratch)?;
+            comparer.with_weights(&words, weights, scratch)?;
         }
     }
     Ok(())
@@ -319,8 +320,8 @@ fn marked_chances(comparer: &mut Comparer, random: &mut Random) -> Compared {
         let exact = needed(&words);
         let scratch = random.pick(&[0, exact - 1, exact, exact, exact, exact + 1]);
         let weights = draw::weights(random, &plan);
-        comparer.chance(&words, weights, scratch)?;
-        comparer.chance(&words, random.pick(WEIGHTS), exact)?;
+        comparer.with_weights(&words, weights, scratch)?;
+        comparer.with_weights(&words, random.pick(WEIGHTS), exact)?;
     }
     Ok(())
 }
