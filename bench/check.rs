@@ -73,6 +73,11 @@ impl Sides {
                     weights: call.weights,
                     scratch: call.scratch as usize,
                 },
+                Case::ExpectedUnits(call) | Case::ExpectedUnitsChart(call) => Work::Units {
+                    plan: call.words,
+                    weights: call.weights,
+                    scratch: call.scratch as usize,
+                },
                 Case::LotChance(call) => Work::LotChance {
                     plan: call.words,
                     lot: call.lot,

@@ -14,6 +14,11 @@ pub enum Work {
         weights: Weights,
         scratch: usize,
     },
+    Units {
+        plan: Vec<u32>,
+        weights: Weights,
+        scratch: usize,
+    },
     LotChance {
         plan: Vec<u32>,
         /// Good, marginal and bad units.

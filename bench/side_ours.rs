@@ -23,6 +23,14 @@ impl Side for Ours {
                 let scratch = &mut self.0.scratch[..*scratch];
                 returned(haqothwe::chance(plan, *weights, scratch))
             }
+            Work::Units {
+                plan,
+                weights,
+                scratch,
+            } => {
+                let scratch = &mut self.0.scratch[..*scratch];
+                returned(haqothwe::units(plan, *weights, scratch))
+            }
             Work::LotChance { plan, lot, scratch } => {
                 let scratch = &mut self.0.scratch[..*scratch];
                 returned(haqothwe::lot_chance(plan, *lot, scratch))

@@ -23,6 +23,14 @@ impl Side for Plain {
                 let scratch = &mut self.0.scratch[..*scratch];
                 answer(chance::chance(plan, *weights, scratch))
             }
+            Work::Units {
+                plan,
+                weights,
+                scratch,
+            } => {
+                let scratch = &mut self.0.scratch[..*scratch];
+                answer(chance::units(plan, *weights, scratch))
+            }
             Work::LotChance { plan, lot, scratch } => {
                 let scratch = &mut self.0.scratch[..*scratch];
                 answer(chance::lot_chance(plan, *lot, scratch))

@@ -31,6 +31,15 @@ impl Side for Reference {
                 scratch: *scratch as u32,
                 words: plan.clone(),
             })),
+            Work::Units {
+                plan,
+                weights,
+                scratch,
+            } => answer(self.calls.expected_units(&ChanceCall {
+                weights: *weights,
+                scratch: *scratch as u32,
+                words: plan.clone(),
+            })),
             Work::LotChance { plan, lot, scratch } => {
                 answer(self.calls.lot_chance(&LotChanceCall {
                     lot: *lot,

@@ -5,7 +5,7 @@ use reference::generators::draw;
 use reference::generators::full_sheets::{self, Built, Fill};
 use reference::generators::hand_written::{LARGEST, ONE, SEVEN};
 use reference::generators::random::Random;
-use reference::model::chance::MOST_SCRATCH;
+use reference::model::chance::{Weights, MOST_SCRATCH};
 use reference::model::earliest::Table;
 use reference::model::layout::MOST_WORDS;
 use reference::model::plan::Plan;
@@ -20,6 +20,7 @@ pub struct Subject {
 pub fn all() -> Vec<Subject> {
     let mut all = lists(&mut Random::new(1_000));
     all.extend(plans().map(|plan| chance(&plan)));
+    all.extend(plans().map(|plan| units(&plan)));
     all.extend(plans().map(|plan| lot_chance(&plan)));
     // Random numbers of their own, so that the sheets do not change with the lists.
     let random = &mut Random::new(1_000);
@@ -71,12 +72,26 @@ fn judge((name, plan): &Named, classes: &str, list: Vec<u8>) -> Subject {
     }
 }
 
+/// Weights with which either verdict is likely.
+const NEAR_THE_NUMBERS: Weights = [942_000, 3_000, 55_000];
+
 fn chance((name, plan): &Named) -> Subject {
     Subject {
         name: format!("chance, S 1,000, {name}"),
         work: Work::Chance {
             plan: plan.clone(),
-            weights: [942_000, 3_000, 55_000],
+            weights: NEAR_THE_NUMBERS,
+            scratch: MOST_SCRATCH as usize,
+        },
+    }
+}
+
+fn units((name, plan): &Named) -> Subject {
+    Subject {
+        name: format!("expected units, S 1,000, {name}"),
+        work: Work::Units {
+            plan: plan.clone(),
+            weights: NEAR_THE_NUMBERS,
             scratch: MOST_SCRATCH as usize,
         },
     }

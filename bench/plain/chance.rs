@@ -1,10 +1,10 @@
-//! Bounds on the chance of acceptance, by a backward induction in place: the values
-//! at y units from those at y + 1. A row has the states of one number of nongood
+//! Bounds on the chance of acceptance, and on the expected number of units, by a backward
+//! induction in place: the values at y units from those at y + 1. A row has the states of one number of nongood
 //! units, by their bad units. A stage's limits say which states of a row are decided,
 //! so that only those between are reckoned, and of these only the ones that can be
 //! drawn.
 
-use super::draw::{Draw, Lot, Pair, Weights, ACCEPTED, REJECTED};
+use super::draw::{Counted, Draw, Lot, Pair, Weights, REJECTED};
 use super::plan::{Limits, Plan};
 
 /// The greatest sum of weights, and of the units of a lot.
@@ -15,12 +15,24 @@ const BEYOND: [Pair; 61] = [REJECTED; 61];
 
 /// Low and high. The scratch words that the plan needs are written to.
 pub fn chance(words: &[u32], weights: [u32; 3], scratch: &mut [u64]) -> Result<Pair, u32> {
+    let (plan, sum) = weighed(words, weights)?;
+    bounds(&plan, Weights::new(weights, sum), scratch)
+}
+
+/// Low and high of the expected number of units.
+pub fn units(words: &[u32], weights: [u32; 3], scratch: &mut [u64]) -> Result<Pair, u32> {
+    let (plan, sum) = weighed(words, weights)?;
+    bounds(&plan, Counted::new(weights, sum), scratch)
+}
+
+/// The plan, and the sum of the weights.
+fn weighed(words: &[u32], weights: [u32; 3]) -> Result<(Plan, u64), u32> {
     let plan = Plan::admitted(words).ok_or(2_u32)?;
     let sum = weights.into_iter().map(u64::from).sum();
-    if !(1..=MOST).contains(&sum) {
-        return Err(13);
+    match sum {
+        1..=MOST => Ok((plan, sum)),
+        _ => Err(13),
     }
-    bounds(&plan, Weights::new(weights, sum), scratch)
 }
 
 /// Alike, for a lot of so many good, marginal and bad units.
@@ -43,7 +55,7 @@ fn bounds<D: Draw>(plan: &Plan, draw: D, scratch: &mut [u64]) -> Result<Pair, u3
         draw,
     };
     // With all units read, a state below the last numbers is accepted.
-    layers.values.fill(ACCEPTED);
+    layers.values.fill(D::ACCEPTED);
     for i in (0..plan.stages().len()).rev() {
         layers.stage(plan, i);
     }
@@ -87,7 +99,7 @@ impl<D: Draw> Layers<'_, D> {
             let next = &next[..self.r2.min(g + 2)];
             let going_on = limits.going_on(y, g as u32, row.len());
             if at_end {
-                row[..going_on.start].fill(ACCEPTED);
+                row[..going_on.start].fill(D::ACCEPTED);
                 row[going_on.end..].fill(REJECTED);
             }
             self.draw.row(g as u32, going_on, row, next);

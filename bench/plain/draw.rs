@@ -1,5 +1,6 @@
 //! The value of a state as the weighted mean of those after one unit more, by the way
-//! that units are drawn: with fixed weights, or from a lot and without replacement.
+//! that units are drawn: with fixed weights, or from a lot and without replacement. Where
+//! units are counted, each adds one to that mean.
 
 use std::iter::repeat;
 use std::ops::Range;
@@ -7,13 +8,21 @@ use std::ops::Range;
 /// Low and high of a state.
 pub type Pair = [u64; 2];
 
-pub const ACCEPTED: Pair = [1 << 40; 2];
+/// The chance 1.
+const CERTAIN: Pair = [1 << 40; 2];
+
 pub const REJECTED: Pair = [0; 2];
+
+/// One unit, where units are counted.
+const ONE_UNIT: u64 = 1 << 30;
 
 /// The most columns of a row: the last r2 is at most 60.
 const MOST_COLUMNS: usize = 60;
 
 pub trait Draw {
+    /// The value of an accepted state.
+    const ACCEPTED: Pair;
+
     /// The rows that follow are of states at y units.
     fn after(&mut self, y: u32);
 
@@ -69,28 +78,27 @@ impl Mean {
             v0[1] - self.quotient(less(1)),
         ]
     }
+}
 
-    /// The states of a row from those of the same row and of the next, given the weight of
-    /// a nongood unit and, by state, that of a bad one.
-    #[inline(always)]
-    fn row(
-        &self,
-        nongood: u64,
-        mut bads: impl Iterator<Item = u64>,
-        row: &mut [Pair],
-        next: &[Pair],
-    ) {
-        let pairs = next.windows(2);
-        for ((state, pair), bad) in row.iter_mut().zip(pairs).zip(&mut bads) {
-            *state = self.of(nongood, bad, [*state, pair[0], pair[1]]);
-        }
-        // Past the last column a bad unit more is rejected.
-        if row.len() == next.len() {
-            if let (Some(state), Some(&marginal), Some(bad)) =
-                (row.last_mut(), next.last(), bads.next())
-            {
-                *state = self.of(nongood, bad, [*state, marginal, REJECTED]);
-            }
+/// The states of a row from those of the same row and of the next, by what is given for
+/// each state.
+#[inline(always)]
+fn each<T>(
+    mut given: impl Iterator<Item = T>,
+    row: &mut [Pair],
+    next: &[Pair],
+    value: impl Fn(T, [Pair; 3]) -> Pair,
+) {
+    let pairs = next.windows(2);
+    for ((state, pair), it) in row.iter_mut().zip(pairs).zip(&mut given) {
+        *state = value(it, [*state, pair[0], pair[1]]);
+    }
+    // Past the last column a bad unit more is rejected.
+    if row.len() == next.len() {
+        if let (Some(state), Some(&marginal), Some(it)) =
+            (row.last_mut(), next.last(), given.next())
+        {
+            *state = value(it, [*state, marginal, REJECTED]);
         }
     }
 }
@@ -114,12 +122,52 @@ impl Weights {
 }
 
 impl Draw for Weights {
+    const ACCEPTED: Pair = CERTAIN;
+
     fn after(&mut self, _: u32) {}
 
     #[inline(always)]
     fn row(&self, _: u32, states: Range<usize>, row: &mut [Pair], next: &[Pair]) {
         let (row, next) = (&mut row[states.clone()], &next[states.start..]);
-        self.mean.row(self.nongood, repeat(self.bad), row, next);
+        each(repeat(self.bad), row, next, |bad, values| {
+            self.mean.of(self.nongood, bad, values)
+        });
+    }
+}
+
+/// Fixed weights, where units are counted. A worse unit may leave more units to inspect, so
+/// that all three values are weighted.
+pub struct Counted {
+    weights: [u64; 3],
+    mean: Mean,
+}
+
+impl Counted {
+    pub fn new(weights: [u32; 3], sum: u64) -> Counted {
+        let mean = Mean::new(sum);
+        Counted {
+            weights: weights.map(|weight| mean.scaled(weight)),
+            mean,
+        }
+    }
+}
+
+impl Draw for Counted {
+    const ACCEPTED: Pair = [0; 2];
+
+    fn after(&mut self, _: u32) {}
+
+    #[inline(always)]
+    fn row(&self, _: u32, states: Range<usize>, row: &mut [Pair], next: &[Pair]) {
+        let [w0, w1, w2] = self.weights;
+        let (row, next) = (&mut row[states.clone()], &next[states.start..]);
+        each(repeat(()), row, next, |(), [v0, v1, v2]| {
+            let sum = |i: usize| w0 * v0[i] + w1 * v1[i] + w2 * v2[i];
+            [
+                ONE_UNIT + self.mean.quotient(sum(0)),
+                ONE_UNIT + self.mean.quotient(sum(1) + self.mean.sum - 1),
+            ]
+        });
     }
 }
 
@@ -152,6 +200,8 @@ impl Lot {
 }
 
 impl Draw for Lot {
+    const ACCEPTED: Pair = CERTAIN;
+
     fn after(&mut self, y: u32) {
         self.y = y;
         self.mean = Mean::new(u64::from(self.good + self.marginal + self.bad - y));
@@ -171,10 +221,12 @@ impl Draw for Lot {
         if self.good + g == self.y {
             // No good unit is left; what is taken off the value of one may be taken off any
             // that is as high.
-            row.fill(ACCEPTED);
+            row.fill(CERTAIN);
         }
         let nongood = self.mean.scaled(self.marginal + self.bad - g);
         let bads = self.bads[start..end].iter().copied();
-        self.mean.row(nongood, bads, row, next);
+        each(bads, row, next, |bad, values| {
+            self.mean.of(nongood, bad, values)
+        });
     }
 }
