@@ -1,5 +1,6 @@
 """bin/oc: the operating characteristic of a plan, which is its chance of acceptance against the
-share of bad units, or the bad units of a lot, as a table, as CSV and as a drawing."""
+share of bad units, or the bad units of a lot, as a table, as CSV and as a drawing; and so its
+expected units."""
 
 import argparse
 import csv
@@ -7,25 +8,24 @@ import os
 import shlex
 import subprocess
 import sys
-from functools import cache
 from itertools import pairwise
 from pathlib import Path
 
 import oc_svg
 from oc_lot import Lot, lot_size, units
 from oc_shares import Shares, round_step, rounds, shares
+from oc_units import ExpectedUnits
 from plan_rules import broken_rules
 
 ROOT = Path(__file__).resolve().parents[2]
-
-# The chance 1 in units of the library's whole numbers.
-UNITS = 2**40
 
 DESCRIPTION = """\
 Prints the chance that a plan accepts a lot, for shares of bad and of marginal units: the proved
 low and high, low rounded down and high rounded up. A plan has five numbers a stage:
 n a1 r1 a2 r2. With --lot also the chance for a lot of so many units, from which the sample is
-drawn without replacement; bad and marginal units are then whole numbers of the lot's units."""
+drawn without replacement; bad and marginal units are then whole numbers of the lot's units. With
+--units the expected number of units inspected up to the earliest stop (average sample number), in
+place of the chance."""
 
 EXAMPLES = """\
 examples:
@@ -33,7 +33,8 @@ examples:
   bin/oc --marginal 5,10,15,20 --bad 2,4,6,8 40 7 8 2 3
   bin/oc --csv 80 5 9 1 4 80 12 13 4 5
   bin/oc --svg target/oc.svg 80 5 9 1 4 80 12 13 4 5
-  bin/oc --lot 300 --marginal 0,15 --bad 0,3,6,9,12 40 7 8 2 3"""
+  bin/oc --lot 300 --marginal 0,15 --bad 0,3,6,9,12 40 7 8 2 3
+  bin/oc --units --digits 2 --marginal 0,4,6,8 80 5 9 1 4 80 12 13 4 5"""
 
 
 class Failure(Exception):
@@ -76,10 +77,12 @@ def parsed(arguments):
     add("plan", nargs="*", type=option_type(word), metavar="NUMBER", help="the plan")
     add("--lot", type=option_type(lot_size), metavar="N",
         help="size of the lot, 1 to 1000000; --marginal and --bad are then numbers of units")
+    add("--units", action="store_true",
+        help="show the expected units; for shares only, not with --lot")
     add("--marginal", type=amounts, metavar="PERCENT,..",
         help="shares of marginal units; else three that suit the plan")
     add("--bad", type=amounts, metavar="PERCENT,..",
-        help="shares of bad units; else from 0 to where the chance is below 1 %%")
+        help="shares of bad units; else from 0 to where the chance of acceptance is below 1 %%")
     add("--digits", type=option_type(digits), default=6, metavar="N",
         help="digits after the point; else 6")
     add("--csv", action="store_true", help="print CSV")
@@ -109,26 +112,26 @@ def default_marginals(plan, whole):
     return [0, max(step, 1), 2 * max(step, 1)]
 
 
-def default_bads(bounds, whole):
+def default_bads(scale):
     """From 0 to where the chance without marginal units, which never rises, is below 1 %."""
-    low, high = 0, whole
+    low, high = 0, scale.whole
     while high - low > high // 50 + 1:
         middle = (low + high) // 2
-        if 100 * bounds(0, middle)[0][1] < UNITS:
+        if scale.unlikely(middle):
             high = middle
         else:
             low = middle
-    return sorted({min(bad, whole) for bad in rounds(high, 20)})
+    return sorted({min(bad, scale.whole) for bad in rounds(high, 20)})
 
 
-def chosen(options, scale, bounds):
+def chosen(options, scale):
     """The marginal and the bad units. A default has none that fits no other number."""
     given = [amounts[-1] if amounts else 0 for amounts in (options.marginal, options.bad)]
     if sum(given) > scale.whole:
         marginal, bad, whole = map(scale.amount, (*given, scale.whole))
         raise Failure(f"{marginal} marginal and {bad} bad units add to over {whole}")
     marginals = options.marginal or default_marginals(options.plan, scale.whole)
-    bads = options.bad or default_bads(bounds, scale.whole)
+    bads = options.bad or default_bads(scale)
     if not options.marginal:
         marginals = [marginal for marginal in marginals if marginal + bads[0] <= scale.whole]
     if not options.bad:
@@ -147,32 +150,33 @@ def finer(bads):
     return sorted(between | {bads[-1]})
 
 
-def asked(bounds, pairs):
+def asked(scale, pairs):
     """Bounds of pairs of units. A terminal is told of them, as large plans take seconds."""
     found = {}
     for pair in pairs:
         if sys.stderr.isatty():
-            print(f"\r{len(found)} of {len(pairs)} chances ", end="", file=sys.stderr, flush=True)
-        found[pair] = bounds(*pair)
+            print(f"\r{len(found)} of {len(pairs)} {scale.plural} ", end="", file=sys.stderr,
+                  flush=True)
+        found[pair] = scale.bounds(*pair)
     if sys.stderr.isatty():
         print("\r" + " " * 30, end="\r", file=sys.stderr, flush=True)
     return found
 
 
-def outward(bounds, digits):
+def outward(bounds, bits, digits):
     """Low rounded down and high rounded up, as decimals."""
     low, high = (bound * 10**digits for bound in bounds)
-    rounded = low // UNITS, -(-high // UNITS)
+    rounded = low >> bits, -(-high >> bits)
     return [f"{it // 10**digits}.{it % 10**digits:0{digits}}" for it in rounded]
 
 
-def decimals(bounds, digits):
-    return [decimal for pair in bounds for decimal in outward(pair, digits)]
+def decimals(options, scale, bounds):
+    return [it for pair in bounds for it in outward(pair, scale.bits, options.digits)]
 
 
 def table(options, scale, marginals, bads, found):
     """A row for each number of bad units; "-" where the units would add to more than all."""
-    size = max(options.digits + 2, scale.least_width)
+    size = max(len(str(scale.most)) + 1 + options.digits, scale.least_width)
     labels = [f"marginal {scale.amount(marginal)}" for marginal in marginals]
 
     def line(cells):
@@ -187,7 +191,7 @@ def table(options, scale, marginals, bads, found):
 
     def cell(marginal, bad):
         if (marginal, bad) in found:
-            return line(decimals(found[marginal, bad], options.digits))
+            return line(decimals(options, scale, found[marginal, bad]))
         return line("-" * len(scale.columns))
 
     yield scale.title
@@ -203,13 +207,13 @@ def write_csv(options, scale, marginals, bads, found):
     writer.writerow(scale.csv_columns)
     for pair in ((marginal, bad) for marginal in marginals for bad in bads):
         if pair in found:
-            writer.writerow([*map(scale.text, pair), *decimals(found[pair], options.digits)])
+            writer.writerow([*map(scale.text, pair), *decimals(options, scale, found[pair])])
 
 
 def write_svg(options, arguments, scale, marginals, drawn, found):
-    """Low and high are at most 1,000 units apart, which no drawing shows: their mean is drawn."""
+    """Low and high are at most 1,000 / 2^30 apart, which no drawing shows: their mean is drawn."""
     def points(bounds):
-        return [(bad, sum(pair) / (2 * UNITS)) for bad, pair in bounds]
+        return [(bad, sum(pair) / 2**(scale.bits + 1)) for bad, pair in bounds]
 
     curves = [oc_svg.Curve(
         scale.amount(marginal),
@@ -224,6 +228,9 @@ def write_svg(options, arguments, scale, marginals, drawn, found):
 
 def checked(options):
     """Raises what is wrong with the plan and the lot."""
+    if options.units and options.lot:
+        raise Failure("--units does not go with --lot: expected units are known for shares only, "
+                      "not for lots of a given size")
     if not options.plan:
         raise Failure("no plan is given; bin/oc --help says how")
     broken = broken_rules(options.plan)
@@ -234,16 +241,21 @@ def checked(options):
         raise Failure(f"the lot has {options.lot} units, fewer than the sample, which has {sample}")
 
 
+def chosen_scale(options):
+    about = options.plan, library()
+    if options.lot:
+        return Lot(*about, options.lot)
+    return ExpectedUnits(*about) if options.units else Shares(*about)
+
+
 def run(arguments):
     options = parsed(arguments)
     checked(options)
-    about = options.plan, library()
-    scale = Lot(*about, options.lot) if options.lot else Shares(*about)
-    bounds = cache(scale.bounds)
-    marginals, bads = chosen(options, scale, bounds)
+    scale = chosen_scale(options)
+    marginals, bads = chosen(options, scale)
     drawn = finer(bads) if options.svg else bads
     every = ((marginal, bad) for marginal in marginals for bad in drawn)
-    found = asked(bounds, [pair for pair in every if sum(pair) <= scale.whole])
+    found = asked(scale, [pair for pair in every if sum(pair) <= scale.whole])
     if options.svg:
         write_svg(options, arguments, scale, marginals, drawn, found)
     if options.csv:

@@ -4,6 +4,7 @@ which drawing does not change."""
 import re
 from fractions import Fraction
 
+from oc_scale import Scale
 from oc_shares import WHOLE
 
 # The most units of a lot.
@@ -33,7 +34,7 @@ def _number(text):
     return int(text) if re.fullmatch("[0-9]{1,7}", text) else None
 
 
-class Lot:
+class Lot(Scale):
     """What bin/oc shows for a lot, as oc_shares.Shares for shares."""
 
     kind = "numbers"
@@ -45,23 +46,24 @@ class Lot:
     subtitle = "lot low, lot high: this lot; low, high: a very large lot with the same shares"
 
     def __init__(self, plan, library, size):
-        self.plan = plan
-        self.library = library
+        super().__init__(plan, library)
         self.whole = size
         self.heading = f"Operating characteristic, lot of {size} units"
-        self.title = f"Chance of acceptance, lot of {size} units, plan {' '.join(map(str, plan))}"
-        self.note = (f"Each line is the proved low and high: they are at most {sum(plan[::5])} / "
-                     "2^40 apart. A large lot has the same shares.")
+        self.title = f"{self.measure}, lot of {size} units, plan {' '.join(map(str, plan))}"
+        self.note += " A large lot has the same shares."
 
     def text(self, number):
         return str(number)
 
     amount = text
 
+    def chance(self, marginal, bad):
+        lot = self.whole - marginal - bad, marginal, bad
+        return self.library.lot_chance(self.plan, lot)
+
     def bounds(self, marginal, bad):
         """Low and high of the lot, then of a large lot."""
-        lot = self.whole - marginal - bad, marginal, bad
-        return [self.library.lot_chance(self.plan, lot), self.large_lot(marginal, bad)]
+        return [self.chance(marginal, bad), self.large_lot(marginal, bad)]
 
     def large_lot(self, marginal, bad):
         """Low and high; the bad units may be a fraction."""

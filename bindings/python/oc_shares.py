@@ -3,6 +3,8 @@
 import re
 from itertools import count
 
+from oc_scale import Scale
+
 # All units of a lot; the most that weights may add to.
 WHOLE = 1_000_000
 
@@ -24,7 +26,7 @@ def percent(share):
     return f"{share / 10_000:g}"
 
 
-class Shares:
+class Shares(Scale):
     """What bin/oc shows for a lot so large that drawing does not change its shares."""
 
     whole = WHOLE
@@ -37,12 +39,9 @@ class Shares:
     axis = "Share of bad units (%)"
 
     def __init__(self, plan, library):
-        self.plan = plan
-        self.library = library
-        self.title = f"Chance of acceptance, plan {' '.join(map(str, plan))}"
+        super().__init__(plan, library)
+        self.title = f"{self.measure}, plan {' '.join(map(str, plan))}"
         self.subtitle = ""
-        self.note = (f"Each line is the proved low and high: they are at most {sum(plan[::5])} / "
-                     "2^40 apart.")
 
     def text(self, share):
         return percent(share)
@@ -50,10 +49,15 @@ class Shares:
     def amount(self, share):
         return f"{percent(share)} %"
 
+    def weights(self, marginal, bad):
+        return WHOLE - marginal - bad, marginal, bad
+
+    def chance(self, marginal, bad):
+        return self.library.chance(self.plan, self.weights(marginal, bad))
+
     def bounds(self, marginal, bad):
         """Pairs of low and high."""
-        weights = WHOLE - marginal - bad, marginal, bad
-        return [self.library.chance(self.plan, weights)]
+        return [self.chance(marginal, bad)]
 
     def beside(self, marginal, bads):
         """No curve is drawn beside this one."""

@@ -1,5 +1,5 @@
-"""Operating characteristic curves as an SVG drawing, with a white ground, so that it can be read
-on any page."""
+"""The curves of bin/oc as an SVG drawing, with a white ground, so that it can be read on any
+page."""
 
 from collections import namedtuple
 from xml.sax.saxutils import escape
@@ -28,15 +28,17 @@ INK, GRID = "#222222", "#dddddd"
 # A point is marked on a curve that has at most so many, beside which there is another.
 FEW_POINTS = 40
 
-# The marginal units as text, pairs of the bad units and a chance, and such pairs of the thin curve
+# The marginal units as text, pairs of the bad units and a value, and such pairs of the thin curve
 # beside, if there is one.
 Curve = namedtuple("Curve", "marginal points beside")
 
 
 def drawing(scale, curves, command):
-    """scale: oc_shares.Shares or oc_lot.Lot."""
+    """scale: an oc_scale.Scale."""
     ticks = rounds(max(bad for curve in curves for bad, _ in curve.points), 10)
-    parts = [*_titles(scale), *_axes(scale, ticks), *_curves(curves, ticks[-1]), *_legend(curves),
+    plot = _Plot(ticks[-1], scale.most)
+    parts = [*_titles(scale), *_axes(scale, plot, ticks), *_most(scale, plot),
+             *_curves(curves, plot), *_legend(curves),
              _text(20, HEIGHT - 8, scale.note, 'font-size="12"')]
     return f"""\
 <svg xmlns="http://www.w3.org/2000/svg" viewBox="0 0 {WIDTH} {HEIGHT}" width="{WIDTH}" \
@@ -49,12 +51,14 @@ height="{HEIGHT}" role="img" font-family="Helvetica, Arial, sans-serif" font-siz
 """
 
 
-def _across(bad, last):
-    return LEFT + (RIGHT - LEFT) * bad / last
+class _Plot(namedtuple("_Plot", "last most")):
+    """From bad units and a value to their place, by the ends of the axes."""
 
+    def across(self, bad):
+        return LEFT + (RIGHT - LEFT) * bad / self.last
 
-def _down(chance):
-    return BOTTOM - (BOTTOM - TOP) * chance
+    def down(self, value):
+        return BOTTOM - (BOTTOM - TOP) * value / self.most
 
 
 def _text(x, y, content, more=""):
@@ -75,22 +79,30 @@ def _titles(scale):
         yield _text(20, 68, f"/ {' / '.join(stages[4:])}")
 
 
-def _axes(scale, ticks):
+def _axes(scale, plot, ticks):
     """Grid, ticks with their numbers, and what the axes are."""
     for bad in ticks:
-        x = _across(bad, ticks[-1])
+        x = plot.across(bad)
         yield _line(x, TOP, x, BOTTOM, GRID)
         yield _text(x, BOTTOM + 20, scale.text(bad), 'class="x" text-anchor="middle"')
-    for tenths in range(0, 11, 2):
-        y = _down(tenths / 10)
+    for value, text in scale.ticks:
+        y = plot.down(value)
         yield _line(LEFT, y, RIGHT, y, GRID)
-        yield _text(LEFT - 10, y + 5, f"{tenths / 10:.1f}", 'class="y" text-anchor="end"')
+        yield _text(LEFT - 10, y + 5, text, 'class="y" text-anchor="end"')
     yield _line(LEFT, TOP, LEFT, BOTTOM, INK)
     yield _line(LEFT, BOTTOM, RIGHT, BOTTOM, INK)
     x, y = (LEFT + RIGHT) / 2, (TOP + BOTTOM) / 2
     yield _text(x, BOTTOM + 44, scale.axis, 'text-anchor="middle"')
-    yield _text(28, y, "Chance of acceptance",
+    yield _text(28, y, scale.measure,
                 f'text-anchor="middle" transform="rotate(-90 28 {y:g})"')
+
+
+def _most(scale, plot):
+    """The line at the largest value, to compare the curves with, and its label above the plot."""
+    if scale.most_label:
+        y = plot.down(scale.most)
+        yield f'<path class="most" d="M {LEFT} {y:g} H {RIGHT}" stroke="{INK}" stroke-width="2"/>'
+        yield _text(RIGHT, y - 6, scale.most_label, 'text-anchor="end"')
 
 
 def _stroke(index, width=2.5):
@@ -98,24 +110,24 @@ def _stroke(index, width=2.5):
     return f'fill="none" stroke="{colour}" stroke-width="{width}" stroke-dasharray="{dashes}"'
 
 
-def _curves(curves, last):
+def _curves(curves, plot):
     for index, curve in enumerate(curves):
         label = f"marginal {curve.marginal}"
         if curve.beside:
-            yield _curve(_stroke(index, 1), curve.beside, last, f"{label}, a large lot")
-        yield _curve(_stroke(index), curve.points, last, label)
+            yield _curve(_stroke(index, 1), curve.beside, plot, f"{label}, a large lot")
+        yield _curve(_stroke(index), curve.points, plot, label)
         if curve.beside and len(curve.points) <= FEW_POINTS:
-            yield from _markers(STROKES[index][0], curve.points, last)
+            yield from _markers(STROKES[index][0], curve.points, plot)
 
 
-def _curve(stroke, points, last, label):
-    places = " ".join(f"{_across(bad, last):.2f},{_down(chance):.2f}" for bad, chance in points)
+def _curve(stroke, points, plot, label):
+    places = " ".join(f"{plot.across(bad):.2f},{plot.down(value):.2f}" for bad, value in points)
     return f'<polyline {stroke} points="{places}"><title>{label}</title></polyline>'
 
 
-def _markers(colour, points, last):
-    for bad, chance in points:
-        yield (f'<circle cx="{_across(bad, last):.2f}" cy="{_down(chance):.2f}" r="3" '
+def _markers(colour, points, plot):
+    for bad, value in points:
+        yield (f'<circle cx="{plot.across(bad):.2f}" cy="{plot.down(value):.2f}" r="3" '
                f'fill="{colour}"/>')
 
 

@@ -1,8 +1,10 @@
 """What the tests of bin/oc share: plans, calls of bin/oc, and the reading of its drawings."""
 
+import csv
 import io
 import xml.etree.ElementTree as xml
 from contextlib import redirect_stderr, redirect_stdout
+from fractions import Fraction
 
 import oc
 from common import WORK, run
@@ -41,6 +43,13 @@ def printed(*arguments):
     return out
 
 
+def csv_table(columns, *arguments):
+    """The rows of the CSV, whose columns are called so."""
+    head, *rows = csv.reader(io.StringIO(printed("--csv", *arguments)))
+    assert head == columns
+    return [list(map(Fraction, row)) for row in rows]
+
+
 def expect_failures(test, wrong):
     """Pairs of arguments and a part of the sentence; the last ones as a process too."""
     for arguments, sentence in wrong:
@@ -67,3 +76,13 @@ def scale(root, axis):
     # The number of a tick of the y axis stands five lower than its line.
     shift = 5 if axis == "y" else 0
     return lambda place: values[0] + (place + shift - places[0]) * slope
+
+
+def curves(root):
+    """The points of the curves, as the axes show them, by what the curves are called."""
+    across, down = scale(root, "x"), scale(root, "y")
+    found = {}
+    for curve in root.findall(f"{SVG}polyline"):
+        places = [map(float, point.split(",")) for point in curve.get("points").split()]
+        found[curve.find(f"{SVG}title").text] = [(across(x), down(y)) for x, y in places]
+    return found

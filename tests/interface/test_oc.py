@@ -1,7 +1,5 @@
 """bin/oc: published chances, rounding, default shares, CSV, drawings and wrong arguments."""
 
-import csv
-import io
 import os
 import pty
 import shlex
@@ -10,13 +8,14 @@ import unittest
 import xml.etree.ElementTree as xml
 from collections import Counter
 from fractions import Fraction
+from functools import partial
 from itertools import product
 from math import comb
 
 import haqothwe
 from common import ROOT, WORK, run
-from oc_common import (DOUBLE, MARK, MULTIPLE, SINGLE, SVG, drawn, expect_failures, printed,
-                       scale)
+from oc_common import (DOUBLE, MARK, MULTIPLE, SINGLE, SVG, csv_table, drawn, expect_failures,
+                       printed, scale)
 
 # Table 5.1 of document 003 for the plan SINGLE: per cent bad, then Pa for 5, 10, 15 and 20 per
 # cent marginal. Its last digit is taken as right to one unit.
@@ -26,11 +25,7 @@ PUBLISHED = """\
 6 0.561672 0.480158 0.293239 0.124068
 8 0.365494 0.304034 0.175054 0.068581"""
 
-
-def csv_rows(*arguments):
-    head, *rows = csv.reader(io.StringIO(printed("--csv", *arguments)))
-    assert head == ["marginal_percent", "bad_percent", "low", "high"]
-    return [list(map(Fraction, row)) for row in rows]
+csv_rows = partial(csv_table, ["marginal_percent", "bad_percent", "low", "high"])
 
 
 def bounds(plan, marginal, bad):
@@ -173,7 +168,7 @@ class Drawing(unittest.TestCase):
 
     def test_pictures_of_the_documents(self):
         """Each is what the command that it names draws."""
-        for name in "docs/oc.svg", "docs/oc-lot.svg":
+        for name in "docs/oc.svg", "docs/oc-lot.svg", "docs/oc-units.svg":
             page = (ROOT / name).read_text(encoding="utf-8")
             made_by = xml.fromstring(page).find(f"{SVG}desc").text
             command, *arguments = shlex.split(made_by.removeprefix("Made by: "))

@@ -1,17 +1,16 @@
 """bin/oc --lot: known and exact chances, CSV, default numbers, drawings and wrong arguments."""
 
-import csv
-import io
 import unittest
 from collections import Counter
 from fractions import Fraction
+from functools import partial
 from itertools import product
 from math import comb
 
 import haqothwe
 from common import run
-from oc_common import (DOUBLE, MARK, MULTIPLE, SINGLE, SVG, drawn, expect_failures, printed,
-                       scale)
+from oc_common import (DOUBLE, MARK, MULTIPLE, SINGLE, SVG, csv_table, curves, drawn,
+                       expect_failures, printed)
 
 # Chances by the distribution functions of R, to eight decimals: N, D, n, c and P(X <= c) for a
 # sample of n from N units of which D are bad.
@@ -33,12 +32,7 @@ TWO_STAGES = """\
 HALF_A_DIGIT = Fraction("5e-9")
 
 CSV_COLUMNS = ["marginal_units", "bad_units", "lot_low", "lot_high", "low", "high"]
-
-
-def csv_rows(*arguments):
-    head, *rows = csv.reader(io.StringIO(printed("--csv", *arguments)))
-    assert head == CSV_COLUMNS
-    return [list(map(Fraction, row)) for row in rows]
+csv_rows = partial(csv_table, CSV_COLUMNS)
 
 
 def known_rows(text):
@@ -186,16 +180,6 @@ class Numbers(unittest.TestCase):
 
 
 class Drawing(unittest.TestCase):
-    def curves(self, root):
-        """The points of the curves, by what they are called."""
-        across, down = scale(root, "x"), scale(root, "y")
-        curves = {}
-        for curve in root.findall(f"{SVG}polyline"):
-            places = [map(float, point.split(",")) for point in curve.get("points").split()]
-            name = curve.find(f"{SVG}title").text
-            curves[name] = [(across(x), down(y)) for x, y in places]
-        return curves
-
     def near(self, chance, bounds):
         """To a twentieth of a unit of the drawing."""
         self.assertAlmostEqual(chance, float(sum(bounds)) / 2, delta=0.05 / 340)
@@ -204,17 +188,17 @@ class Drawing(unittest.TestCase):
         """The lot's at whole numbers of bad units, all of them where they are few."""
         for size, most, parts in ((200, 20, 6), (1_000, 150, 1), (300_000, 30, 3)):
             arguments = "--lot", str(size), "--marginal", "0,5,12", "--bad", f"0,{most}"
-            curves = self.curves(drawn(*arguments, *DOUBLE))
-            self.assertEqual(len(curves), 6)
+            found = curves(drawn(*arguments, *DOUBLE))
+            self.assertEqual(len(found), 6)
             for marginal in (0, 5, 12):
-                points = curves[f"marginal {marginal}"]
+                points = found[f"marginal {marginal}"]
                 bads = [round(bad) for bad, _ in points]
                 if most <= 120:
                     self.assertEqual(bads, list(range(most + 1)))
                 for bad, (place, chance) in zip(bads, points):
                     self.assertAlmostEqual(place, bad, delta=most / 10_000)
                     self.near(chance, lot_bounds(DOUBLE, [size - marginal - bad, marginal, bad]))
-                points = curves[f"marginal {marginal}, a large lot"]
+                points = found[f"marginal {marginal}, a large lot"]
                 self.assertEqual(len(points), parts * (len(bads) - 1) + 1)
                 for place, chance in points:
                     part = round(place * parts)
