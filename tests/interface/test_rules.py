@@ -95,7 +95,7 @@ EXAMPLES = [
 ]
 
 # Fields before the plan in a line of the stored cases (tests/reference/lines/plan_lines.rs).
-FIELDS_BEFORE = {"a": 1, "j": 2, "c": 5, "f": 5, "l": 5}
+FIELDS_BEFORE = {"a": 1, "j": 2, "c": 5, "f": 5, "l": 5, "u": 5, "v": 5}
 
 
 def stored_plans():
