@@ -5,6 +5,7 @@ mod Enclosure
 mod SampleValue
 mod ChanceLaw
 mod Quotient
+mod Reciprocals
 mod States
 mod InRow
 mod Decisions

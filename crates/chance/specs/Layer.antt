@@ -18,6 +18,7 @@ use Rattle.chance.specs.declared.division.Reciprocal.{Reciprocal}
 use Rattle.chance.specs.declared.answers.Bounds.{Bounds}
 use Rattle.chance.specs.Bounds.{weight-sum, weighted, Rounding, down, up, rounded, Valuation, step, bound}
 use Rattle.chance.specs.Chance.{scale, left-of}
+use Rattle.chance.specs.Division.{Exact}
 
 abbrev pub rounding : Bool → Rounding
 rounding false = down
@@ -82,7 +83,7 @@ pub record Between (s : Setting) (d : Reciprocal) (y g to : ℕ) : Type 0 where
   pub few : g ≤ y
   pub thousand : y ≤ 1000
   pub upto : to ≤ min (g + 1) (s .r2)
-  pub shift : d .shift < 64
+  pub exact : Exact d
 
 -- the weights are not all 0 at the states between two numbers of bad units
 abbrev pub Weighs : Setting → ℕ → ℕ → ℕ → ℕ → Type 0

@@ -1,5 +1,6 @@
 pub mod Bounds
 pub mod Chance
+pub mod Division
 pub mod Fraction
 pub mod Layer
 pub mod Reply

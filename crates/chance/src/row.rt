@@ -9,6 +9,7 @@ ghost use mathlib.Core.Path.{_≡_};
 ghost use mathlib.Core.Bool.{false};
 ghost use Prim.Native.Nat.{_+_, _*_, _≤_, _<_};
 ghost use lib.ListN.{length};
+ghost use Rattle.chance.specs.Division.{Exact};
 ghost use Rattle.chance.specs.Layer.{word, Valued, Between, Weighs, Filled, Further, Stepped-row};
 
 // The words from `from` on and below `to` become `value`.
@@ -119,7 +120,7 @@ pub fn step_row(
     reject: usize,
 )
     requires { ⌜ Valued (now layer) s ⌝ }
-    requires { ⌜ (g < s .r1) × (g ≤ y) × (y ≤ 1000) × (d .shift < 64) ⌝ }
+    requires { ⌜ (g < s .r1) × (g ≤ y) × (y ≤ 1000) × Exact d ⌝ }
     requires { ⌜ Weighs s y g accept reject ⌝ }
     ensures { λ _. ⌜ Stepped-row s y g accept reject (now (layer .entry)) (now (layer .exit)) ⌝ }
 {

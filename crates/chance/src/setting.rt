@@ -3,7 +3,8 @@ use crate::division::Reciprocal;
 use crate::division::reciprocal_of;
 use crate::mean::Weights;
 ghost use mathlib.Core.Path.{_≡_};
-ghost use Prim.Native.Nat.{_-_, _≤_, _<_};
+ghost use Prim.Native.Nat.{_-_, _≤_};
+ghost use Rattle.chance.specs.Division.{Exact};
 ghost use Rattle.chance.specs.Layer.{at, setting-weights, Proportions};
 
 // The last rejection numbers; the value at acceptance (that at rejection is 0); the cost of each further unit;
@@ -46,7 +47,7 @@ pub fn weights_at(s: Setting, y: usize, g: usize, b: usize) -> Weights
 // is another, and is divided by without it.
 pub fn reciprocal_at(s: Setting, y: usize) -> Reciprocal
     requires { ⌜ Proportions (s .weights) ⌝ }
-    ensures { λ r. ⌜ r .shift < 64 ⌝ }
+    ensures { λ r. ⌜ Exact r ⌝ }
 {
     let sum = s.weights.good + s.weights.marginal + s.weights.bad;
     if s.left {
