@@ -1,8 +1,8 @@
 -- The states of one row, in place: words filled with a value, states where inspection goes on, and the row as a whole.
 -- Assumes nothing.
-use Prim.Native.Nat.{ℕ, _+_, _-_, _*_, _≤_, _<_, min, max}
+use Prim.Native.Nat.{ℕ, _+_, _-_, _*_, _%_, _≤_, _<_, min, max}
 use mathlib.Core.Path.{_≡_, refl, sym, ap, subst, _∙_}
-use mathlib.Core.Logic.{_⊎_, inl, inr, ⊎-elim}
+use mathlib.Core.Logic.{_⊎_, inl, inr, ⊎-elim, _≢_}
 use mathlib.Core.Bool.{Bool, true, false, cond}
 use mathlib.Core.List.{List}
 use lib.ListN.{length, getD, set, length-set}
@@ -16,8 +16,9 @@ use Rattle.chance.specs.declared.mean.Weights.{Weights}
 use Rattle.chance.specs.declared.setting.Setting.{Setting}
 use Rattle.chance.specs.declared.division.Reciprocal.{Reciprocal}
 use Rattle.chance.specs.Chance.{scale}
-use Rattle.chance.specs.Layer.{setting-weights, at, word, Proportions, Values, Valued, Between, Weighs, Outside, Filled, further, Further, Stepped-row}
-use Rattle.chance.proofs.States.{weights-few, inside, next-row, word-is, word-at-most, word-same, further-same}
+use Rattle.chance.specs.Layer.{setting-weights, at, word, Proportions, Values, Valued, Between, Weighs, Outside, Filled, further, Further, Further-to, Stepped-row}
+use Rattle.chance.specs.Constant.{constant-value, Legible}
+use Rattle.chance.proofs.States.{weights-few, constant-weights, inside, next-row, word-is, word-at-most, word-same, further-is, further-same}
 
 -- a word that was set, and the others
 module _ (layer : List ℕ) (k v : ℕ) (fits : k < length layer) where
@@ -66,14 +67,6 @@ module _ {from to value : ℕ} {before : List ℕ} where
 
 -- ---- the states where inspection goes on, down to b bad units
 
-pub record Further-to (s : Setting) (y g from to : ℕ) (before layer : List ℕ) (bad b : ℕ) : Type 0 where
-  pub same : length layer ≡ length before
-  pub at-least : min from to ≤ b
-  pub at-most : b ≤ to
-  pub done : (k : ℕ) → b ≤ k → k < to → getD layer (g * s .r2 + k) 0 ≡ further s before y g k
-  pub others : Outside (g * s .r2 + b) (g * s .r2 + to) before layer
-  pub bad-is : bad ≡ word (s .r1) (s .r2) before (g + 1) b
-
 -- the three words of a state of k bad units
 pub record Reading (s : Setting) (g k : ℕ) (before layer : List ℕ) (carried : ℕ) : Type 0 where
   pub place : g * s .r2 + k < length layer
@@ -95,6 +88,10 @@ module _ {s : Setting} {y g from to : ℕ} {before : List ℕ} where
         others = λ i h. p .others i
             (elim (decLt i (g * s .r2 + b)) [ yes q ↦ inl q | no q ↦ inr (⊎-elim {C = g * s .r2 + to ≤ i} (λ a. omega (arith, p .at-least)) (λ a. a) h) ]);
       }
+
+-- where there is no state, nothing is done
+pub further-nothing : {s : Setting} {y g from to : ℕ} {layer : List ℕ} → to ≤ from → Further s y g from to layer layer
+further-nothing h = record { done = λ k l m. absurd (omega arith); others = λ i l. refl }
 
 -- one state more, of k bad units
 pub further-more : {s : Setting} {y g from to bad b : ℕ} {before layer : List ℕ} → Further-to s y g from to before layer bad b → (k value marginal : ℕ) → b ≡ k + 1 → from ≤ k
@@ -152,6 +149,73 @@ turn {s} {d} {y} {g} {from} {to} {bad} {b} p more h m weighs e f =
       };
       values = (read .good-most, rw f (read .marginal-most), read .bad-most);
     }
+
+-- ---- the same with constant weights, in a row before the last
+
+pub record Descent (s : Setting) (d : Reciprocal) (y g to : ℕ) (before : List ℕ) : Type 0 where
+  pub valued : Valued before s
+  pub between : Between s d y g to
+  pub next : g + 1 < s .r1
+  pub constant : s .left ≡ false
+
+pub descent : (s : Setting) (d : Reciprocal) (y g to : ℕ) {before : List ℕ} → Valued before s → Between s d y g to → (s .left ≡ false) × (g + 1 < s .r1)
+    → {e : Reciprocal} → e ≡ d → Descent s e y g to before
+descent s d y g to h m k same =
+    record { valued = h; between = subst (λ (x : Reciprocal). Between s x y g to) (sym same) m; next = k .1; constant = k .0 }
+
+module _ {s : Setting} {d : Reciprocal} {y g from to bad b : ℕ} {before layer : List ℕ} (f : Descent s d y g to before) (p : Further-to s y g from to before layer bad b)
+    (k : ℕ) (one : b ≡ k + 1) where
+  read : Reading s g k before layer bad
+  read = let same : b - 1 ≡ k = omega arith in subst (λ (n : ℕ). Reading s g n before layer bad) same (reading p (omega arith) (f .valued) (f .between))
+
+  in-row : k < s .r2
+  in-row = omega (arith, p .at-most, f .between .upto)
+
+  on : word (s .r1) (s .r2) layer (g + 1) k ≡ getD layer (g * s .r2 + s .r2 + k) 0
+  on = word-is (s .r1) (s .r2) layer (g + 1) k (f .next) in-row ∙ ap (λ (n : ℕ). getD layer (n + k) 0) (next-row (s .r2) g)
+
+  pub legible : Legible layer (g * s .r2 + k) (g * s .r2 + s .r2 + k) bad
+  legible = record {
+    place-in = read .place;
+    next-in = omega (arith, inside (s .r1) (s .r2) (g + 1) k (f .next) in-row, next-row (s .r2) g, p .same, f .valued .room);
+    good-most = read .good-most;
+    marginal-most = rw (sym on) (read .marginal-most);
+    bad-most = read .bad-most;
+  }
+
+  -- one state more
+  pub state-more : from ≤ k → {after : List ℕ} {marginal : ℕ} → marginal ≡ getD layer (g * s .r2 + s .r2 + k) 0
+      → after ≡ set layer (g * s .r2 + k) (constant-value s (getD layer (g * s .r2 + k) 0) (getD layer (g * s .r2 + s .r2 + k) 0) bad)
+      → Further-to s y g from to before after marginal k
+  state-more l {after} {marginal} e q =
+      let word-on = sym on ∙ read .marginal in
+      let value = further-is s before y g k (s .weights) _ _ bad _ (constant-weights s (at y g k) (f .constant)) (read .good) word-on (read .bad) refl in
+      subst (λ (x : List ℕ). Further-to s y g from to before x marginal k) (sym q)
+      (further-more p k (constant-value s (getD layer (g * s .r2 + k) 0) (getD layer (g * s .r2 + s .r2 + k) 0) bad) marginal one l (read .place) value (e ∙ word-on))
+
+-- where a loop begins with some states done, and has done more
+abbrev pub Onward : Setting → Reciprocal → ℕ → ℕ → ℕ → ℕ → List ℕ → ℕ → ℕ → List ℕ → ℕ → ℕ → Type 0
+Onward s d y g from to start bad₀ b₀ layer bad b =
+    (before : List ℕ) → Descent s d y g to before → Further-to s y g from to before start bad₀ b₀ → Further-to s y g from to before layer bad b
+
+-- the states that four do not go into, which come first, and those that are left then
+pub odd-some : (from b : ℕ) → from ≤ b → (b - from) % 4 ≢ 0 → from < b
+odd-some from b h e = omega arith
+
+pub odd-less : (from to b : ℕ) → from ≤ b → b ≤ to → to - (to - from) % 4 ≤ b → (b - from) % 4 ≢ 0 → to - (to - from) % 4 ≤ b - 1
+odd-less from to b h k l e = omega arith
+
+pub odd-none : (from to b : ℕ) → from ≤ b → b ≤ to → to - (to - from) % 4 ≤ b → (b - from) % 4 ≡ 0 → b ≡ to - (to - from) % 4
+odd-none from to b h k l e = omega arith
+
+pub fours : (from to : ℕ) → from ≤ to → (to - (to - from) % 4 - from) % 4 ≡ 0
+fours from to h = omega arith
+
+pub four-left : (from b : ℕ) → from < b → (b - from) % 4 ≡ 0 → from + 4 ≤ b
+four-left from b h e = omega arith
+
+pub four-less : (from b : ℕ) → from + 4 ≤ b → (b - from) % 4 ≡ 0 → (b - 4 - from) % 4 ≡ 0
+four-less from b h e = omega arith
 
 -- ---- the row: rejected states filled, those between the limits stepped, accepted states filled
 

@@ -7,6 +7,7 @@ mod ChanceLaw
 mod Quotient
 mod Reciprocals
 mod States
+mod TwoProducts
 mod InRow
 mod Decisions
 mod InPlace

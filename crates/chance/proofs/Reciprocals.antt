@@ -91,5 +91,5 @@ module _ (n : ℕ) (d : Reciprocal) (e : Exact d) where
   pub scaled : n * d .scale / divisor d ≡ n / d .by
   scaled = mul-div-mul-right n (d .by) (pos-right (d .by) (d .scale) (e .some))
 
-  pub scaled-fits : n ≤ d .by * 1099511627777 → n * d .scale ≤ 1152921504607895552
-  scaled-fits h = omega (arith, mul-le-mul-right (d .scale) h, mul-right-comm (d .by) 1099511627777 (d .scale), e .few)
+  pub scaled-fits : (m : ℕ) → n ≤ d .by * m → n * d .scale ≤ 1048576 * m
+  scaled-fits m h = omega (arith, mul-le-mul-right (d .scale) h, mul-right-comm (d .by) m (d .scale), mul-le-mul-right m (e .few))

@@ -2,6 +2,7 @@
 -- Assumes nothing.
 use Prim.Native.Nat.{ℕ, zero, suc, _+_, _-_, _*_, _/_, _≤_, _<_}
 use mathlib.Core.Path.{_≡_, refl, ap, _∙_}
+use mathlib.Core.Bool.{Bool, true, false, cond}
 use native.Mathlib.Nat.{div-zero, div-mul-le-self, div-lt-iff-lt-mul, lt-div-mul-add, add-mul, mul-add, mul-comm, mul-le-mul-left, mul-zero, div-eq-of-lt, zero-div, div-le-of-le-mul, add-zero, mul-add-div, mul-div-cancel-left}
 use native.Mathlib.Omega.{arith}
 use Rattle.plan.specs.declared.counts.Counts.{Counts}
@@ -10,6 +11,7 @@ use Rattle.plan.specs.declared.stage.Answer.the-variants.{GoOn, Accept, Reject}
 use Rattle.plan.specs.Counts.{add-units}
 use Rattle.chance.specs.declared.mean.Weights.{Weights}
 use Rattle.chance.specs.Bounds.{weight-sum, weighted, weighted-sum, Rounding, down, up, rounded, Valuation, terminal, step, bound}
+use Rattle.chance.specs.Layer.{rounding}
 use Rattle.chance.specs.Laws.{Width-law}
 
 div-below : (k x y : ℕ) → 0 < k → x < y * k → x / k < y
@@ -28,6 +30,11 @@ floor-le a d = div-mul-le-self a d
 
 pub ceiling-ge : (a d : ℕ) → 0 < d → a ≤ rounded up a d * d
 ceiling-ge a d h = omega (arith, lt-div-mul-add {a = a + (d - 1)} {b = d} h)
+
+-- by what is added, a quotient is rounded
+pub rounds : (up : Bool) (n d : ℕ) → (n + cond up (d - 1) 0) / d ≡ rounded (rounding up) n d
+rounds true n d = refl
+rounds false n d = ap (λ (k : ℕ). k / d) (add-zero n)
 
 -- a mean is at most what its values are; divided by 0 it is 0
 pub rounded-le : (r : Rounding) (n d most : ℕ) → n ≤ d * most → rounded r n d ≤ most

@@ -40,8 +40,8 @@ weights-few s c = go (s .left)
     go true = omega arith
     go false = omega arith
 
-pub constant-weights : (s : Setting) (c d : Counts) → s .left ≡ false → setting-weights s c ≡ setting-weights s d
-constant-weights s c d e = rw e
+pub constant-weights : (s : Setting) (c : Counts) → s .left ≡ false → s .weights ≡ setting-weights s c
+constant-weights s c e = rw e
 
 -- ---- the word of a state
 

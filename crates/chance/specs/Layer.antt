@@ -77,13 +77,18 @@ pub record Valued (layer : List ℕ) (s : Setting) : Type 0 where
   pub room : s .r1 * s .r2 ≤ length layer
   pub values : Values (s .r1 * s .r2) scale layer
 
+-- a reciprocal that serves: of the sum of the weights, if they are constant
+pub record Serves (s : Setting) (d : Reciprocal) : Type 0 where
+  pub exact : Exact d
+  pub of-sum : s .left ≡ false → d .by ≡ weight-sum (s .weights)
+
 -- a row of a layer, and a number of bad units up to which it is stepped
 pub record Between (s : Setting) (d : Reciprocal) (y g to : ℕ) : Type 0 where
   pub inside : g < s .r1
   pub few : g ≤ y
   pub thousand : y ≤ 1000
   pub upto : to ≤ min (g + 1) (s .r2)
-  pub exact : Exact d
+  pub serves : Serves s d
 
 -- the weights are not all 0 at the states between two numbers of bad units
 abbrev pub Weighs : Setting → ℕ → ℕ → ℕ → ℕ → Type 0
@@ -134,6 +139,15 @@ further s layer y g b =
 pub record Further (s : Setting) (y g from to : ℕ) (before after : List ℕ) : Type 0 where
   pub done : (b : ℕ) → from ≤ b → b < to → getD after (g * s .r2 + b) 0 ≡ further s before y g b
   pub others : Outside (g * s .r2 + from) (g * s .r2 + to) before after
+
+-- the same down to b bad units, with the value of the next row there
+pub record Further-to (s : Setting) (y g from to : ℕ) (before layer : List ℕ) (bad b : ℕ) : Type 0 where
+  pub same : length layer ≡ length before
+  pub at-least : min from to ≤ b
+  pub at-most : b ≤ to
+  pub done : (k : ℕ) → b ≤ k → k < to → getD layer (g * s .r2 + k) 0 ≡ further s before y g k
+  pub others : Outside (g * s .r2 + b) (g * s .r2 + to) before layer
+  pub bad-is : bad ≡ word (s .r1) (s .r2) before (g + 1) b
 
 -- the value of a state by the limits: accepted with fewer than `accept` bad units, else rejected from `reject` on
 abbrev pub by-limits : Setting → ℕ → ℕ → ℕ → ℕ → ℕ

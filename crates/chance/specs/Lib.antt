@@ -3,6 +3,7 @@ pub mod Chance
 pub mod Division
 pub mod Fraction
 pub mod Layer
+pub mod Constant
 pub mod Reply
 pub mod Lot
 pub mod Units

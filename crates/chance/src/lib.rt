@@ -7,6 +7,7 @@ mod answers;
 mod backward;
 mod bounding;
 mod charting;
+mod constant;
 mod division;
 mod expected_units;
 mod layer;

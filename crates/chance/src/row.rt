@@ -1,5 +1,8 @@
 // A row of a layer, the states of g nongood units, in place: from the values at y + 1 units to those at y. The
 // state of g nongood and b bad units stands at g * r2 + b, for g below r1 and b below r2.
+use crate::constant::Constant;
+use crate::constant::constant_mean;
+use crate::constant::constant_of;
 use crate::division::Reciprocal;
 use crate::mean::mean;
 use crate::setting::Setting;
@@ -7,10 +10,10 @@ use crate::setting::weights_at;
 use plan::minimum;
 ghost use mathlib.Core.Path.{_≡_};
 ghost use mathlib.Core.Bool.{false};
-ghost use Prim.Native.Nat.{_+_, _*_, _≤_, _<_};
-ghost use lib.ListN.{length};
-ghost use Rattle.chance.specs.Division.{Exact};
-ghost use Rattle.chance.specs.Layer.{word, Valued, Between, Weighs, Filled, Further, Stepped-row};
+ghost use Prim.Native.Nat.{_+_, _-_, _*_, _%_, _≤_, _<_};
+ghost use lib.ListN.{length, getD, set};
+ghost use Rattle.chance.specs.Layer.{word, Serves, Valued, Between, Weighs, Filled, Further, Further-to, Stepped-row};
+ghost use Rattle.chance.specs.Constant.{constant-value, Constant-for, Legible};
 
 // The words from `from` on and below `to` become `value`.
 pub fn fill(layer: &mut [u64], from: usize, to: usize, value: u64)
@@ -45,34 +48,82 @@ fn edge_value(layer: &[u64], r1: usize, r2: usize, g: usize, b: usize) -> u64
     }
 }
 
-// The states between two numbers of bad units, where inspection goes on, with constant weights, which are asked for
-// once. From the last to the first: the value after a bad unit is that which the state before had after a marginal
-// one.
+// One state, with constant weights. What is read in the next row is given back: the value after a marginal unit is
+// that of the state before after a bad one.
+fn state(
+    layer: &mut [u64],
+    s: Setting,
+    t: Constant,
+    row: usize,
+    next: usize,
+    b: usize,
+    bad: u64,
+) -> u64
+    requires { ⌜ Constant-for s t ⌝ }
+    requires { ⌜ Legible (now layer) (row + b) (next + b) bad ⌝ }
+    ensures { λ r. ⌜ r ≡ getD (now (layer .entry)) (next + b) 0 ⌝ }
+    ensures { λ _. ⌜ now (layer .exit) ≡ set (now (layer .entry)) (row + b) (constant-value s (getD (now (layer .entry)) (row + b) 0) (getD (now (layer .entry)) (next + b) 0) bad) ⌝ }
+{
+    let marginal = layer[next + b];
+    layer[row + b] = constant_mean(s, t, layer[row + b], marginal, bad);
+    marginal
+}
+
+// The last states of those that `go_on` steps, until four go into the number of the others.
+fn odd_states(
+    layer: &mut [u64],
+    s: Setting,
+    t: Constant,
+    y: usize,
+    g: usize,
+    from: usize,
+    to: usize,
+) -> u64
+    requires { ⌜ Valued (now layer) s ⌝ }
+    requires { ⌜ Between s (t .divisor) y g to ⌝ }
+    requires { ⌜ Constant-for s t ⌝ }
+    requires { ⌜ (s .left ≡ false) × (g + 1 < s .r1) × (from ≤ to) ⌝ }
+    ensures { λ r. ⌜ Further-to s y g from to (now (layer .entry)) (now (layer .exit)) r (to - (to - from) % 4) ⌝ }
+{
+    let row = g * s.r2;
+    let next = row + s.r2;
+    let mut bad = edge_value(layer, s.r1, s.r2, g + 1, to);
+    let mut b = to;
+    while (b - from) % 4 != 0 {
+        b -= 1;
+        bad = state(layer, s, t, row, next, b, bad);
+    }
+    bad
+}
+
+// The states between two numbers of bad units, where inspection goes on, with constant weights, in a row before the
+// last. From the last to the first, so that of the next row each word is read once. Four a turn: a loop with one a
+// turn is slower by a third at least.
 fn go_on(layer: &mut [u64], s: Setting, d: Reciprocal, y: usize, g: usize, from: usize, to: usize)
     requires { ⌜ Valued (now layer) s ⌝ }
     requires { ⌜ Between s d y g to ⌝ }
     requires { ⌜ Weighs s y g from to ⌝ }
-    requires { ⌜ s .left ≡ false ⌝ }
+    requires { ⌜ (s .left ≡ false) × (g + 1 < s .r1) ⌝ }
     ensures { λ _. ⌜ Further s y g from to (now (layer .entry)) (now (layer .exit)) ⌝ }
 {
-    let r1 = s.r1;
-    let r2 = s.r2;
-    let w = weights_at(s, y, g, 0);
-    let start = g * r2;
-    let mut bad = edge_value(layer, r1, r2, g + 1, to);
-    let mut b = to;
+    if to <= from {
+        return;
+    }
+    let t = constant_of(s, d);
+    let row = g * s.r2;
+    let next = row + s.r2;
+    let mut bad = odd_states(layer, s, t, y, g, from, to);
+    let mut b = to - (to - from) % 4;
     while from < b {
-        b -= 1;
-        let place = start + b;
-        let good = layer[place];
-        let marginal = value_at(layer, r1, r2, g + 1, b);
-        layer[place] = s.cost + mean(w, d, s.up, good, marginal, bad);
-        bad = marginal;
+        b -= 4;
+        let third = state(layer, s, t, row, next, b + 3, bad);
+        let second = state(layer, s, t, row, next, b + 2, third);
+        let first = state(layer, s, t, row, next, b + 1, second);
+        bad = state(layer, s, t, row, next, b, first);
     }
 }
 
-// The same with weights that fall, which are asked for at each state. With this loop alone constant weights would
-// take a quarter more time.
+// The same with any weights, which are asked for at each state, and in any row.
 fn draw_on(layer: &mut [u64], s: Setting, d: Reciprocal, y: usize, g: usize, from: usize, to: usize)
     requires { ⌜ Valued (now layer) s ⌝ }
     requires { ⌜ Between s d y g to ⌝ }
@@ -95,18 +146,20 @@ fn draw_on(layer: &mut [u64], s: Setting, d: Reciprocal, y: usize, g: usize, fro
     }
 }
 
-// Either of them, by the kind of weights.
+// Either of them, by the kind of weights and by the row.
 fn between(layer: &mut [u64], s: Setting, d: Reciprocal, y: usize, g: usize, from: usize, to: usize)
     requires { ⌜ Valued (now layer) s ⌝ }
     requires { ⌜ Between s d y g to ⌝ }
     requires { ⌜ Weighs s y g from to ⌝ }
     ensures { λ _. ⌜ Further s y g from to (now (layer .entry)) (now (layer .exit)) ⌝ }
 {
-    if s.left {
-        draw_on(layer, s, d, y, g, from, to);
-        return;
+    if !s.left {
+        if g + 1 < s.r1 {
+            go_on(layer, s, d, y, g, from, to);
+            return;
+        }
     }
-    go_on(layer, s, d, y, g, from, to);
+    draw_on(layer, s, d, y, g, from, to);
 }
 
 // The row: below `accept` bad units states are accepted, from `reject` on they are rejected.
@@ -120,7 +173,7 @@ pub fn step_row(
     reject: usize,
 )
     requires { ⌜ Valued (now layer) s ⌝ }
-    requires { ⌜ (g < s .r1) × (g ≤ y) × (y ≤ 1000) × Exact d ⌝ }
+    requires { ⌜ (g < s .r1) × (g ≤ y) × (y ≤ 1000) × Serves s d ⌝ }
     requires { ⌜ Weighs s y g accept reject ⌝ }
     ensures { λ _. ⌜ Stepped-row s y g accept reject (now (layer .entry)) (now (layer .exit)) ⌝ }
 {

@@ -4,8 +4,7 @@ use crate::division::reciprocal_of;
 use crate::mean::Weights;
 ghost use mathlib.Core.Path.{_≡_};
 ghost use Prim.Native.Nat.{_-_, _≤_};
-ghost use Rattle.chance.specs.Division.{Exact};
-ghost use Rattle.chance.specs.Layer.{at, setting-weights, Proportions};
+ghost use Rattle.chance.specs.Layer.{at, setting-weights, Proportions, Serves};
 
 // The last rejection numbers; the value at acceptance (that at rejection is 0); the cost of each further unit;
 // the weights, which are constant or, where `left`, fall by one with each unit of their class; and the rounding.
@@ -47,7 +46,7 @@ pub fn weights_at(s: Setting, y: usize, g: usize, b: usize) -> Weights
 // is another, and is divided by without it.
 pub fn reciprocal_at(s: Setting, y: usize) -> Reciprocal
     requires { ⌜ Proportions (s .weights) ⌝ }
-    ensures { λ r. ⌜ Exact r ⌝ }
+    ensures { λ r. ⌜ Serves s r ⌝ }
 {
     let sum = s.weights.good + s.weights.marginal + s.weights.bad;
     if s.left {
