@@ -97,8 +97,8 @@ fn odd_states(
 }
 
 // The states between two numbers of bad units, where inspection goes on, with constant weights, in a row before the
-// last. From the last to the first, so that of the next row each word is read once. Four a turn: a loop with one a
-// turn is slower by a third at least.
+// last. From the last to the first, so that of the next row each word is read once. Four a turn was the fastest of
+// the forms that were timed (docs/DECISIONS.md).
 fn go_on(layer: &mut [u64], s: Setting, d: Reciprocal, y: usize, g: usize, from: usize, to: usize)
     requires { ⌜ Valued (now layer) s ⌝ }
     requires { ⌜ Between s d y g to ⌝ }
