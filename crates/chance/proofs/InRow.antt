@@ -14,10 +14,12 @@ use native.Mathlib.Decide.{decLt}
 use native.Mathlib.Omega.{arith}
 use Rattle.chance.specs.declared.mean.Weights.{Weights}
 use Rattle.chance.specs.declared.setting.Setting.{Setting}
+use Rattle.chance.specs.declared.constant.Constant.{Constant}
 use Rattle.chance.specs.declared.division.Reciprocal.{Reciprocal}
+use Rattle.chance.specs.declared.row.Undecided.{Undecided}
 use Rattle.chance.specs.Chance.{scale}
-use Rattle.chance.specs.Layer.{setting-weights, at, word, Proportions, Values, Valued, Between, Weighs, Outside, Filled, further, Further, Further-to, Stepped-row}
-use Rattle.chance.specs.Constant.{constant-value, Legible}
+use Rattle.chance.specs.Layer.{setting-weights, at, word, Proportions, Values, Valued, Between, Weighs, Outside, Filled, further, Further, Further-to, Decided, Stepped-row}
+use Rattle.chance.specs.Constant.{constant-value, Constant-for, Legible}
 use Rattle.chance.proofs.States.{weights-few, constant-weights, inside, next-row, word-is, word-at-most, word-same, further-is, further-same}
 
 -- a word that was set, and the others
@@ -158,10 +160,13 @@ pub record Descent (s : Setting) (d : Reciprocal) (y g to : ℕ) (before : List 
   pub next : g + 1 < s .r1
   pub constant : s .left ≡ false
 
-pub descent : (s : Setting) (d : Reciprocal) (y g to : ℕ) {before : List ℕ} → Valued before s → Between s d y g to → (s .left ≡ false) × (g + 1 < s .r1)
-    → {e : Reciprocal} → e ≡ d → Descent s e y g to before
-descent s d y g to h m k same =
-    record { valued = h; between = subst (λ (x : Reciprocal). Between s x y g to) (sym same) m; next = k .1; constant = k .0 }
+pub constant-between : {s : Setting} {t : Constant} {y g to : ℕ} → Constant-for s t → g < s .r1 → g ≤ y → y ≤ 1000 → to ≤ min (g + 1) (s .r2) → Between s (t .divisor) y g to
+constant-between k inside few thousand upto =
+    record { inside = inside; few = few; thousand = thousand; upto = upto; serves = record { exact = k .exact; of-sum = λ e. k .of-sum } }
+
+pub descent : {s : Setting} {t : Constant} {y g to : ℕ} {before : List ℕ} → Valued before s → Between s (t .divisor) y g to → Constant-for s t → g + 1 < s .r1
+    → Descent s (t .divisor) y g to before
+descent h m k l = record { valued = h; between = m; next = l; constant = k .constant }
 
 module _ {s : Setting} {d : Reciprocal} {y g from to bad b : ℕ} {before layer : List ℕ} (f : Descent s d y g to before) (p : Further-to s y g from to before layer bad b)
     (k : ℕ) (one : b ≡ k + 1) where
@@ -217,36 +222,62 @@ four-left from b h e = omega arith
 pub four-less : (from b : ℕ) → from + 4 ≤ b → (b - from) % 4 ≡ 0 → (b - 4 - from) % 4 ≡ 0
 four-less from b h e = omega arith
 
--- ---- the row: rejected states filled, those between the limits stepped, accepted states filled
+-- ---- the row: rejected and accepted states filled, those between the limits stepped
 
 -- the whole row stands in the layer
 pub row-room : {layer : List ℕ} {s : Setting} {g : ℕ} → Valued layer s → g < s .r1 → g * s .r2 + s .r2 ≤ length layer
 row-room {layer} {s} {g} h l = omega (arith, h .room, mul-le-mul-right (s .r2) l, suc-mul g (s .r2))
 
-module _ {s : Setting} {y g accept reject from to end : ℕ} {before layer1 layer2 layer3 : List ℕ}
-    (ends : end ≡ min (g + 1) (s .r2)) (from-is : from ≡ min accept end) (to-is : to ≡ min reject end)
-    (rejected : Filled (g * s .r2 + to) (g * s .r2 + end) 0 before layer1)
-    (stepped : Further s y g from to layer1 layer2)
-    (accepted : Filled (g * s .r2) (g * s .r2 + from) (s .accepted) layer2 layer3) where
-  pub row-all : Stepped-row s y g accept reject before layer3
-  row-all = record {
+pub row-decided : {s : Setting} {g accept reject from to end : ℕ} {before layer after : List ℕ}
+    → end ≡ min (g + 1) (s .r2) → from ≡ min accept end → to ≡ min reject end
+    → Filled (g * s .r2 + to) (g * s .r2 + end) 0 before layer → Filled (g * s .r2) (g * s .r2 + from) (s .accepted) layer after
+    → Decided s g accept reject before after (record { from = from; to = to })
+row-decided {s} {g} {accept} {reject} {from} {to} {end} ends from-is to-is rejected accepted = record {
+  from-is = from-is ∙ ap (min accept) ends;
+  to-is = to-is ∙ ap (min reject) ends;
+  accepted = λ b h. accepted .done (g * s .r2 + b) (omega arith) (omega arith);
+  rejected = λ b h l m. accepted .others (g * s .r2 + b) (inr (omega arith)) ∙ rejected .done (g * s .r2 + b) (omega arith) (omega arith);
+  undecided = λ b h l. accepted .others (g * s .r2 + b) (inr (omega arith)) ∙ rejected .others (g * s .r2 + b) (inl (omega arith));
+  others = λ i h. accepted .others i (⊎-elim {C = (i < g * s .r2) ⊎ (g * s .r2 + from ≤ i)} inl (λ l. inr (omega arith)) h)
+      ∙ rejected .others i (⊎-elim {C = (i < g * s .r2 + to) ⊎ (g * s .r2 + end ≤ i)} (λ l. inl (omega arith)) (λ l. inr (omega arith)) h);
+}
+
+module _ {s : Setting} {g accept reject : ℕ} {u : Undecided} {before layer : List ℕ} (decided : Decided s g accept reject before layer u) where
+  pub decided-valued : Valued before s → length layer ≡ length before → Valued layer s
+  decided-valued h size = record { few = h .few; fits = h .fits; room = omega (arith, h .room); values = λ i l. value i l (decLt i (g * s .r2)) (decLt i (g * s .r2 + min (g + 1) (s .r2))) }
+    where
+      within : (b : ℕ) → b < min (g + 1) (s .r2) → g * s .r2 + b < s .r1 * s .r2 → Dec (b < u .from) → Dec (b < u .to) → getD layer (g * s .r2 + b) 0 ≤ scale
+      within b m l (yes p) q = rw (decided .accepted b p) (omega (arith, h .fits))
+      within b m l (no p) (no q) = rw (decided .rejected b (omega arith) (omega arith) m) (omega arith)
+      within b m l (no p) (yes q) = rw (decided .undecided b (omega arith) q) (h .values (g * s .r2 + b) l)
+
+      value : (i : ℕ) → i < s .r1 * s .r2 → Dec (i < g * s .r2) → Dec (i < g * s .r2 + min (g + 1) (s .r2)) → getD layer i 0 ≤ scale
+      value i l (yes a) b = rw (decided .others i (inl a)) (h .values i l)
+      value i l (no a) (no b) = rw (decided .others i (inr (omega arith))) (h .values i l)
+      value i l (no a) (yes b) =
+          let place : g * s .r2 + (i - g * s .r2) ≡ i = omega arith in
+          subst (λ (k : ℕ). getD layer k 0 ≤ scale) place
+          (within (i - g * s .r2) (omega arith) (omega arith) (decLt (i - g * s .r2) (u .from)) (decLt (i - g * s .r2) (u .to)))
+
+  pub row-all : {y : ℕ} {after : List ℕ} → Further s y g (u .from) (u .to) layer after → Stepped-row s y g accept reject before after
+  row-all {y} {after} stepped = record {
     done = λ b h l. value b (omega arith) (ltb b accept) (ltb b reject) refl refl;
-    others = λ i h. subst (λ (e : ℕ). (i < g * s .r2) ⊎ (g * s .r2 + e ≤ i) → getD layer3 i 0 ≡ getD before i 0) ends (outside i) h;
+    others = λ i h. stepped .others i
+        (⊎-elim {C = (i < g * s .r2 + u .from) ⊎ (g * s .r2 + u .to ≤ i)} (λ l. inl (omega arith)) (λ l. inr (omega (arith, decided .to-is))) h)
+        ∙ decided .others i h;
   }
     where
-      outside : (i : ℕ) → (i < g * s .r2) ⊎ (g * s .r2 + end ≤ i) → getD layer3 i 0 ≡ getD before i 0
-      outside i (inl l) = accepted .others i (inl l) ∙ stepped .others i (inl (omega arith)) ∙ rejected .others i (inl (omega arith))
-      outside i (inr l) = accepted .others i (inr (omega arith)) ∙ stepped .others i (inr (omega arith)) ∙ rejected .others i (inr l)
-
-      value : (b : ℕ) → b < end → (p q : Bool) → ltb b accept ≡ p → ltb b reject ≡ q
-          → getD layer3 (g * s .r2 + b) 0 ≡ cond p (s .accepted) (cond q (further s before y g b) 0)
-      value b l true q e f = accepted .done (g * s .r2 + b) (omega arith) (omega (arith, ltb-true b accept e))
+      value : (b : ℕ) → b < min (g + 1) (s .r2) → (p q : Bool) → ltb b accept ≡ p → ltb b reject ≡ q
+          → getD after (g * s .r2 + b) 0 ≡ cond p (s .accepted) (cond q (further s before y g b) 0)
+      value b l true q e f =
+          let below : b < u .from = omega (arith, decided .from-is, ltb-true b accept e) in
+          stepped .others (g * s .r2 + b) (inl (omega arith)) ∙ decided .accepted b below
       value b l false true e f =
-          accepted .others (g * s .r2 + b) (inr (omega (arith, ltb-false b accept e)))
-          ∙ stepped .done b (omega (arith, ltb-false b accept e)) (omega (arith, ltb-true b reject f))
-          ∙ further-same s before y g b layer1 (rejected .others (g * s .r2 + b) (inl (omega (arith, ltb-true b reject f))))
-          (λ i h. rejected .others i (inr (omega (arith, next-row (s .r2) g))))
+          let above : u .from ≤ b = omega (arith, decided .from-is, ltb-false b accept e) in
+          let below : b < u .to = omega (arith, decided .to-is, ltb-true b reject f) in
+          stepped .done b above below
+          ∙ further-same s before y g b layer (decided .undecided b above below) (λ i h. decided .others i (inr (omega (arith, next-row (s .r2) g))))
       value b l false false e f =
-          accepted .others (g * s .r2 + b) (inr (omega (arith, ltb-false b accept e)))
-          ∙ stepped .others (g * s .r2 + b) (inr (omega (arith, ltb-false b reject f)))
-          ∙ rejected .done (g * s .r2 + b) (omega (arith, ltb-false b reject f)) (omega arith)
+          let above : u .from ≤ b = omega (arith, decided .from-is, ltb-false b accept e) in
+          let past : u .to ≤ b = omega (arith, decided .to-is, ltb-false b reject f) in
+          stepped .others (g * s .r2 + b) (inr (omega arith)) ∙ decided .rejected b above past l

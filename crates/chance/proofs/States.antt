@@ -65,14 +65,17 @@ module _ (r1 r2 : ℕ) (layer : List ℕ) (g b : ℕ) where
       go true = rw (le-ltb b r2 h)
       go false = refl
 
-  pub word-at-most : (m : ℕ) → Values (r1 * r2) m layer → word r1 r2 layer g b ≤ m
-  word-at-most m h = go (ltb g r1) (ltb b r2) refl refl
+  pub word-most : (m : ℕ) → (g < r1 → b < r2 → getD layer (g * r2 + b) 0 ≤ m) → word r1 r2 layer g b ≤ m
+  word-most m h = go (ltb g r1) (ltb b r2) refl refl
     where
       go : (p q : Bool) → ltb g r1 ≡ p → ltb b r2 ≡ q → cond p (cond q (getD layer (g * r2 + b) 0) 0) 0 ≤ m
-      go true true e f = h (g * r2 + b) (inside r1 r2 g b (ltb-true g r1 e) (ltb-true b r2 f))
+      go true true e f = h (ltb-true g r1 e) (ltb-true b r2 f)
       go true false e f = omega arith
       go false true e f = omega arith
       go false false e f = omega arith
+
+  pub word-at-most : (m : ℕ) → Values (r1 * r2) m layer → word r1 r2 layer g b ≤ m
+  word-at-most m h = word-most m (λ k l. h (g * r2 + b) (inside r1 r2 g b k l))
 
   pub word-same : (before : List ℕ) → getD layer (g * r2 + b) 0 ≡ getD before (g * r2 + b) 0 → word r1 r2 layer g b ≡ word r1 r2 before g b
   word-same before = ap (λ (k : ℕ). cond (ltb g r1) (cond (ltb b r2) k 0) 0)
@@ -96,7 +99,11 @@ module _ (s : Setting) (before : List ℕ) (y g b : ℕ) where
       (word-same (s .r1) (s .r2) layer (g + 1) (b + 1) before (next ((g + 1) * s .r2 + (b + 1)) (omega arith)))
       refl
 
-  pub further-at-most : (m : ℕ) → Values (s .r1 * s .r2) m before → further s before y g b ≤ s .cost + m
+  pub further-at-most : (m : ℕ) → ((i : ℕ) → g * s .r2 ≤ i → i < s .r1 * s .r2 → getD before i 0 ≤ m) → further s before y g b ≤ s .cost + m
   further-at-most m h =
-      let at-most : (g b : ℕ) → word (s .r1) (s .r2) before g b ≤ m = λ g b. word-at-most (s .r1) (s .r2) before g b m h in
-      omega (arith, mean-at-most (setting-weights s (at y g b)) (at-most g b, at-most (g + 1) b, at-most (g + 1) (b + 1)) (rounding (s .up)))
+      let at-most : (n k : ℕ) → g ≤ n → word (s .r1) (s .r2) before n k ≤ m
+      = λ n k l. word-most (s .r1) (s .r2) before n k m (λ p q. h (n * s .r2 + k) (omega (arith, mul-le-mul-right (s .r2) l)) (inside (s .r1) (s .r2) n k p q)) in
+      omega (
+        arith,
+        mean-at-most (setting-weights s (at y g b)) (at-most g b (omega arith), at-most (g + 1) b (omega arith), at-most (g + 1) (b + 1) (omega arith)) (rounding (s .up)),
+      )

@@ -1,7 +1,7 @@
 -- A step with constant weights: what the contracts of the inner functions cite.
 use Prim.Native.Nat.{ℕ, _+_, _-_, _*_, _≤_, _<_}
 use mathlib.Core.Path.{_≡_}
-use mathlib.Core.Bool.{cond}
+use mathlib.Core.Bool.{false, cond}
 use mathlib.Core.List.{List}
 use lib.ListN.{length, getD}
 use Rattle.chance.specs.declared.setting.Setting.{Setting}
@@ -20,6 +20,7 @@ abbrev pub constant-sum : Setting → ℕ
 constant-sum s = s .weights .good * scale + weight-sum (s .weights) * s .cost + cond (s .up) (weight-sum (s .weights) - 1) 0
 
 pub record Constant-for (s : Setting) (t : Constant) : Type 0 where
+  pub constant : s .left ≡ false
   pub proportions : Proportions (s .weights)
   pub cost : s .cost ≤ scale
   pub exact : Exact (t .divisor)

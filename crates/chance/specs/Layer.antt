@@ -8,13 +8,14 @@ use mathlib.Core.List.{List}
 use lib.ListN.{length, getD}
 use lib.Dec.{ltb}
 use Rattle.plan.specs.declared.counts.Counts.{Counts}
-use Rattle.plan.specs.declared.boundaries.Rejection.{Rejection}
 use Rattle.plan.specs.Plan.{stages, total, last-reject1, last-reject2, admitted}
 use Rattle.plan.specs.Counts.{nongood, no-units}
+use Rattle.plan.specs.Boundaries.{rejection-at}
 use Rattle.plan.specs.Stopping.{earliest}
 use Rattle.chance.specs.declared.mean.Weights.{Weights}
 use Rattle.chance.specs.declared.setting.Setting.{Setting}
 use Rattle.chance.specs.declared.division.Reciprocal.{Reciprocal}
+use Rattle.chance.specs.declared.row.Undecided.{Undecided}
 use Rattle.chance.specs.declared.answers.Bounds.{Bounds}
 use Rattle.chance.specs.Bounds.{weight-sum, weighted, Rounding, down, up, rounded, Valuation, step, bound}
 use Rattle.chance.specs.Chance.{scale, left-of}
@@ -110,6 +111,26 @@ pub record Ready (plan layer : List ℕ) (s : Setting) (y : ℕ) : Type 0 where
   pub room : s .r1 * s .r2 ≤ length layer
   pub values : Values (s .r1 * s .r2) (most s (y + 1)) layer
 
+-- the same once the rows before the one of `first` nongood units are stepped
+pub record Partly (layer : List ℕ) (s : Setting) (y first : ℕ) : Type 0 where
+  pub few : weight-sum (s .weights) ≤ 1000000
+  pub fits : most s 0 ≤ scale
+  pub thousand : y ≤ 1000
+  pub room : s .r1 * s .r2 ≤ length layer
+  pub values : Values (s .r1 * s .r2) (most s y) layer
+  pub ahead : (i : ℕ) → first * s .r2 ≤ i → i < s .r1 * s .r2 → getD layer i 0 ≤ most s (y + 1)
+
+-- the number of bad units from which on a stage rejects, and rows of y units with fewer nongood ones than it rejects
+pub record Limited (plan : List ℕ) (s : Setting) (y reject rows : ℕ) : Type 0 where
+  pub reject-is : reject ≡ rejection-at 0 (stages plan) y .bad
+  pub unrejected : rows ≤ rejection-at 0 (stages plan) y .nongood
+  pub reached : rows ≤ y + 1
+  pub inside : rows ≤ s .r1
+
+-- the states of y units with n nongood ones or more have the word 0
+abbrev pub Cleared : Setting → ℕ → ℕ → List ℕ → Type 0
+Cleared s y n layer = (g b : ℕ) → n ≤ g → g ≤ y → g < s .r1 → b ≤ g → b < s .r2 → getD layer (g * s .r2 + b) 0 ≡ 0
+
 -- what the backward induction needs
 pub record Prepared (plan layer : List ℕ) (s : Setting) : Type 0 where
   pub suits : Suits plan s
@@ -153,19 +174,36 @@ pub record Further-to (s : Setting) (y g from to : ℕ) (before layer : List ℕ
 abbrev pub by-limits : Setting → ℕ → ℕ → ℕ → ℕ → ℕ
 by-limits s accept reject b on = cond (ltb b accept) (s .accepted) (cond (ltb b reject) on 0)
 
--- the limit of rejection at g nongood units, by a stage's rejection numbers
-abbrev pub reject-limit : Rejection → ℕ → ℕ
-reject-limit r g = cond (ltb g (r .nongood)) (r .bad) 0
+-- after the decided states of the row of g nongood units are written, and the others
+pub record Decided (s : Setting) (g accept reject : ℕ) (before after : List ℕ) (u : Undecided) : Type 0 where
+  pub from-is : u .from ≡ min accept (min (g + 1) (s .r2))
+  pub to-is : u .to ≡ min reject (min (g + 1) (s .r2))
+  pub accepted : (b : ℕ) → b < u .from → getD after (g * s .r2 + b) 0 ≡ s .accepted
+  pub rejected : (b : ℕ) → u .from ≤ b → u .to ≤ b → b < min (g + 1) (s .r2) → getD after (g * s .r2 + b) 0 ≡ 0
+  pub undecided : (b : ℕ) → u .from ≤ b → b < u .to → getD after (g * s .r2 + b) 0 ≡ getD before (g * s .r2 + b) 0
+  pub others : Outside (g * s .r2) (g * s .r2 + min (g + 1) (s .r2)) before after
 
 -- after a step of the row of g nongood units
 pub record Stepped-row (s : Setting) (y g accept reject : ℕ) (before after : List ℕ) : Type 0 where
   pub done : (b : ℕ) → b ≤ g → b < s .r2 → getD after (g * s .r2 + b) 0 ≡ by-limits s accept reject b (further s before y g b)
   pub others : Outside (g * s .r2) (g * s .r2 + min (g + 1) (s .r2)) before after
 
--- after a step of the whole layer: words of no state of y units are as they were
+-- after a step of the rows from that of `first` nongood units on and before that of `end`, to the values of their states
+pub record Stepped-rows (value : ℕ → ℕ → ℕ) (s : Setting) (y first end : ℕ) (before after : List ℕ) : Type 0 where
+  pub done : (g b : ℕ) → first ≤ g → g < end → b ≤ g → b < s .r2 → getD after (g * s .r2 + b) 0 ≡ value g b
+  pub others : Outside (first * s .r2) (end * s .r2) before after
+  pub values : Values (s .r1 * s .r2) (most s y) after
+
+-- the value of a state where nothing is accepted
+abbrev pub open-value : Setting → ℕ → ℕ → List ℕ → ℕ → ℕ → ℕ
+open-value s y reject before g b = by-limits s 0 reject b (further s before y g b)
+
+-- that of a state by the plan
+abbrev pub step-value : List ℕ → Setting → ℕ → List ℕ → ℕ → ℕ → ℕ
+step-value plan s y before g b = step (rounding (s .up)) (setting-value plan s) (word-of s before) (at y g b)
+
+-- after a step of the whole layer
 pub record Stepped-layer (plan : List ℕ) (s : Setting) (y : ℕ) (before after : List ℕ) : Type 0 where
-  pub done : (g b : ℕ) → b ≤ g → g ≤ y → g < s .r1 → b < s .r2
-      → getD after (g * s .r2 + b) 0 ≡ step (rounding (s .up)) (setting-value plan s) (word-of s before) (at y g b)
-  pub others : (g b : ℕ) → b < s .r2 → (g < b) ⊎ (y < g) → getD after (g * s .r2 + b) 0 ≡ getD before (g * s .r2 + b) 0
+  pub done : (g b : ℕ) → b ≤ g → g ≤ y → g < s .r1 → b < s .r2 → getD after (g * s .r2 + b) 0 ≡ step-value plan s y before g b
   pub beyond : Beyond (s .r1 * s .r2) before after
   pub values : Values (s .r1 * s .r2) (most s y) after

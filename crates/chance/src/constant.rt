@@ -5,6 +5,7 @@ use crate::division::quotient;
 use crate::mean::rounded_by;
 use crate::setting::Setting;
 ghost use mathlib.Core.Path.{_≡_};
+ghost use mathlib.Core.Bool.{false};
 ghost use Prim.Native.Nat.{_≤_};
 ghost use Rattle.chance.specs.Bounds.{weight-sum};
 ghost use Rattle.chance.specs.Chance.{scale};
@@ -22,10 +23,10 @@ pub struct Constant {
 }
 
 pub fn constant_of(s: Setting, d: Reciprocal) -> Constant
-    requires { ⌜ Proportions (s .weights) ⌝ }
+    requires { ⌜ (s .left ≡ false) × Proportions (s .weights) ⌝ }
     requires { ⌜ s .cost ≤ scale ⌝ }
     requires { ⌜ Exact d × (d .by ≡ weight-sum (s .weights)) ⌝ }
-    ensures { λ r. ⌜ Constant-for s r × (r .divisor ≡ d) ⌝ }
+    ensures { λ r. ⌜ Constant-for s r ⌝ }
 {
     let total = s.weights.good + s.weights.marginal + s.weights.bad;
     let added = s.weights.good * 1099511627776 + total * s.cost + rounded_by(s.up, total);

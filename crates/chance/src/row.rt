@@ -2,17 +2,15 @@
 // state of g nongood and b bad units stands at g * r2 + b, for g below r1 and b below r2.
 use crate::constant::Constant;
 use crate::constant::constant_mean;
-use crate::constant::constant_of;
 use crate::division::Reciprocal;
 use crate::mean::mean;
 use crate::setting::Setting;
 use crate::setting::weights_at;
 use plan::minimum;
 ghost use mathlib.Core.Path.{_≡_};
-ghost use mathlib.Core.Bool.{false};
 ghost use Prim.Native.Nat.{_+_, _-_, _*_, _%_, _≤_, _<_};
 ghost use lib.ListN.{length, getD, set};
-ghost use Rattle.chance.specs.Layer.{word, Serves, Valued, Between, Weighs, Filled, Further, Further-to, Stepped-row};
+ghost use Rattle.chance.specs.Layer.{word, Serves, Valued, Between, Weighs, Filled, Further, Further-to, Decided, Stepped-row};
 ghost use Rattle.chance.specs.Constant.{constant-value, Constant-for, Legible};
 
 // The words from `from` on and below `to` become `value`.
@@ -82,7 +80,7 @@ fn odd_states(
     requires { ⌜ Valued (now layer) s ⌝ }
     requires { ⌜ Between s (t .divisor) y g to ⌝ }
     requires { ⌜ Constant-for s t ⌝ }
-    requires { ⌜ (s .left ≡ false) × (g + 1 < s .r1) × (from ≤ to) ⌝ }
+    requires { ⌜ (g + 1 < s .r1) × (from ≤ to) ⌝ }
     ensures { λ r. ⌜ Further-to s y g from to (now (layer .entry)) (now (layer .exit)) r (to - (to - from) % 4) ⌝ }
 {
     let row = g * s.r2;
@@ -99,17 +97,16 @@ fn odd_states(
 // The states between two numbers of bad units, where inspection goes on, with constant weights, in a row before the
 // last. From the last to the first, so that of the next row each word is read once. Four a turn was the fastest of
 // the forms that were timed (docs/DECISIONS.md).
-fn go_on(layer: &mut [u64], s: Setting, d: Reciprocal, y: usize, g: usize, from: usize, to: usize)
+fn go_on(layer: &mut [u64], s: Setting, t: Constant, y: usize, g: usize, from: usize, to: usize)
     requires { ⌜ Valued (now layer) s ⌝ }
-    requires { ⌜ Between s d y g to ⌝ }
-    requires { ⌜ Weighs s y g from to ⌝ }
-    requires { ⌜ (s .left ≡ false) × (g + 1 < s .r1) ⌝ }
+    requires { ⌜ Between s (t .divisor) y g to ⌝ }
+    requires { ⌜ Constant-for s t ⌝ }
+    requires { ⌜ g + 1 < s .r1 ⌝ }
     ensures { λ _. ⌜ Further s y g from to (now (layer .entry)) (now (layer .exit)) ⌝ }
 {
     if to <= from {
         return;
     }
-    let t = constant_of(s, d);
     let row = g * s.r2;
     let next = row + s.r2;
     let mut bad = odd_states(layer, s, t, y, g, from, to);
@@ -123,7 +120,28 @@ fn go_on(layer: &mut [u64], s: Setting, d: Reciprocal, y: usize, g: usize, from:
     }
 }
 
-// The same with any weights, which are asked for at each state, and in any row.
+// The same in any row, one a turn.
+fn step_on(layer: &mut [u64], s: Setting, t: Constant, y: usize, g: usize, from: usize, to: usize)
+    requires { ⌜ Valued (now layer) s ⌝ }
+    requires { ⌜ Between s (t .divisor) y g to ⌝ }
+    requires { ⌜ Constant-for s t ⌝ }
+    ensures { λ _. ⌜ Further s y g from to (now (layer .entry)) (now (layer .exit)) ⌝ }
+{
+    let r1 = s.r1;
+    let r2 = s.r2;
+    let start = g * r2;
+    let mut bad = edge_value(layer, r1, r2, g + 1, to);
+    let mut b = to;
+    while from < b {
+        b -= 1;
+        let place = start + b;
+        let marginal = value_at(layer, r1, r2, g + 1, b);
+        layer[place] = constant_mean(s, t, layer[place], marginal, bad);
+        bad = marginal;
+    }
+}
+
+// The same with any weights, which are asked for at each state.
 fn draw_on(layer: &mut [u64], s: Setting, d: Reciprocal, y: usize, g: usize, from: usize, to: usize)
     requires { ⌜ Valued (now layer) s ⌝ }
     requires { ⌜ Between s d y g to ⌝ }
@@ -146,24 +164,29 @@ fn draw_on(layer: &mut [u64], s: Setting, d: Reciprocal, y: usize, g: usize, fro
     }
 }
 
-// Either of them, by the kind of weights and by the row.
-fn between(layer: &mut [u64], s: Setting, d: Reciprocal, y: usize, g: usize, from: usize, to: usize)
-    requires { ⌜ Valued (now layer) s ⌝ }
-    requires { ⌜ Between s d y g to ⌝ }
-    requires { ⌜ Weighs s y g from to ⌝ }
-    ensures { λ _. ⌜ Further s y g from to (now (layer .entry)) (now (layer .exit)) ⌝ }
-{
-    if !s.left {
-        if g + 1 < s.r1 {
-            go_on(layer, s, d, y, g, from, to);
-            return;
-        }
-    }
-    draw_on(layer, s, d, y, g, from, to);
+// The states of a row where inspection goes on, by their bad units: from `from` on and below `to`.
+pub struct Undecided {
+    pub from: usize,
+    pub to: usize,
 }
 
-// The row: below `accept` bad units states are accepted, from `reject` on they are rejected.
-pub fn step_row(
+// Writes the other states of a row: below `accept` bad units they are accepted, from `reject` on they are rejected.
+fn write_decided(layer: &mut [u64], s: Setting, g: usize, accept: usize, reject: usize) -> Undecided
+    requires { ⌜ Valued (now layer) s ⌝ }
+    requires { ⌜ (g < s .r1) × (g ≤ 1000) ⌝ }
+    ensures { λ r. ⌜ Decided s g accept reject (now (layer .entry)) (now (layer .exit)) r ⌝ }
+{
+    let end = minimum(g + 1, s.r2);
+    let from = minimum(accept, end);
+    let to = minimum(reject, end);
+    let start = g * s.r2;
+    fill(layer, start + to, start + end, 0);
+    fill(layer, start, start + from, s.accepted);
+    Undecided { from, to }
+}
+
+// A row with any weights.
+pub fn drawn_row(
     layer: &mut [u64],
     s: Setting,
     d: Reciprocal,
@@ -177,11 +200,36 @@ pub fn step_row(
     requires { ⌜ Weighs s y g accept reject ⌝ }
     ensures { λ _. ⌜ Stepped-row s y g accept reject (now (layer .entry)) (now (layer .exit)) ⌝ }
 {
-    let end = minimum(g + 1, s.r2);
-    let from = minimum(accept, end);
-    let to = minimum(reject, end);
-    let start = g * s.r2;
-    fill(layer, start + to, start + end, 0);
-    between(layer, s, d, y, g, from, to);
-    fill(layer, start, start + from, s.accepted);
+    let undecided = write_decided(layer, s, g, accept, reject);
+    draw_on(layer, s, d, y, g, undecided.from, undecided.to);
+}
+
+// A row with constant weights.
+pub fn constant_row(
+    layer: &mut [u64],
+    s: Setting,
+    t: Constant,
+    y: usize,
+    g: usize,
+    accept: usize,
+    reject: usize,
+)
+    requires { ⌜ Valued (now layer) s ⌝ }
+    requires { ⌜ (g < s .r1) × (g ≤ y) × (y ≤ 1000) ⌝ }
+    requires { ⌜ Constant-for s t ⌝ }
+    ensures { λ _. ⌜ Stepped-row s y g accept reject (now (layer .entry)) (now (layer .exit)) ⌝ }
+{
+    let undecided = write_decided(layer, s, g, accept, reject);
+    step_on(layer, s, t, y, g, undecided.from, undecided.to);
+}
+
+// The same before the last row, where no state is accepted: most rows are of this kind.
+pub fn open_row(layer: &mut [u64], s: Setting, t: Constant, y: usize, g: usize, reject: usize)
+    requires { ⌜ Valued (now layer) s ⌝ }
+    requires { ⌜ (g + 1 < s .r1) × (g ≤ y) × (y ≤ 1000) ⌝ }
+    requires { ⌜ Constant-for s t ⌝ }
+    ensures { λ _. ⌜ Stepped-row s y g 0 reject (now (layer .entry)) (now (layer .exit)) ⌝ }
+{
+    let undecided = write_decided(layer, s, g, 0, reject);
+    go_on(layer, s, t, y, g, undecided.from, undecided.to);
 }

@@ -1,6 +1,6 @@
 -- `chance::constant_of` meets its contract. Assumes nothing.
-use Prim.Native.Nat.{ℕ, _+_, _*_, _≤_}
-use mathlib.Core.Path.{_≡_, refl, sym, ap, subst}
+use Prim.Native.Nat.{ℕ, _+_, _*_}
+use mathlib.Core.Path.{_≡_, refl, ap}
 use borrow.Author.Needs.{needs}
 use native.Mathlib.Omega.{arith}
 use Rattle.chance.specs.Bounds.{weight-sum}
@@ -26,18 +26,17 @@ returns c =
     let s = start .args .s in
     let k = start .args .d .scale in
     let same : (s .weights .good * 1099511627776 + weight-sum (s .weights) * s .cost + added .rounded-by .result) * k ≡ constant-sum s * k
-    = ap (λ (n : ℕ). (s .weights .good * 1099511627776 + weight-sum (s .weights) * s .cost + n) * k) (added .rounded-by .ensures .0) in (
-      record {
-        proportions = start .pre .0;
-        cost = start .pre .1 .0;
-        exact = start .pre .1 .1 .0;
-        of-sum = start .pre .1 .1 .1;
-        marginal = refl;
-        bad = refl;
-        added = same;
-      },
-      refl,
-    )
+    = ap (λ (n : ℕ). (s .weights .good * 1099511627776 + weight-sum (s .weights) * s .cost + n) * k) (added .rounded-by .ensures .0) in
+    record {
+      constant = start .pre .0 .0;
+      proportions = start .pre .0 .1;
+      cost = start .pre .1 .0;
+      exact = start .pre .1 .1 .0;
+      of-sum = start .pre .1 .1 .1;
+      marginal = refl;
+      bad = refl;
+      added = same;
+    }
 
 pub constant-of-spec : {M : Type 1} → statement M
 constant-of-spec =

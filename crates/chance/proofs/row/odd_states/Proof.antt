@@ -1,6 +1,6 @@
 -- `chance::odd_states` meets its contract: the states from b on are done. Assumes nothing.
 use Prim.Native.Nat.{ℕ, _+_, _-_, _%_, _≤_}
-use mathlib.Core.Path.{_≡_, refl, subst}
+use mathlib.Core.Path.{_≡_, subst}
 use native.Mathlib.Omega.{arith}
 use Rattle.chance.specs.Layer.{Further-to}
 use Rattle.chance.proofs.InRow.{row-room, further-none, descent, legible, state-more, odd-some, odd-less, odd-none}
@@ -20,7 +20,7 @@ state-requires c κs =
     let l = loop .loop in
     let pre = start .pre in
     let a = start .args in
-    let f = descent (a .s) (a .t .divisor) (a .y) (a .g) (a .to) (pre .0) (pre .1 .0) (pre .1 .1 .1 .0, pre .1 .1 .1 .1) refl in
+    let f = descent (pre .0) (pre .1 .0) (pre .1 .1 .0) (pre .1 .1 .1 .0) in
     let one : l .b ≡ l .b - 1 + 1 = omega (arith, odd-some (a .from) (l .b) (l .inv .1) (c .before .loop-test .taken)) in
     (pre .1 .1 .0, legible f (l .inv .0) (l .b - 1) one)
 
@@ -32,7 +32,7 @@ loop-again c =
     let l = loop .loop in
     let pre = start .pre in
     let a = start .args in
-    let f = descent (a .s) (a .t .divisor) (a .y) (a .g) (a .to) (pre .0) (pre .1 .0) (pre .1 .1 .1 .0, pre .1 .1 .1 .1) refl in
+    let f = descent (pre .0) (pre .1 .0) (pre .1 .1 .0) (pre .1 .1 .1 .0) in
     let done = c .before .before .state .ensures in
     let some = odd-some (a .from) (l .b) (l .inv .1) more in
     let one : l .b ≡ l .b - 1 + 1 = omega (arith, some) in
@@ -57,7 +57,7 @@ odd-states-spec =
     (λ c. let start = c .before .before .before in omega (arith, row-room (start .pre .0) (start .pre .1 .0 .inside)))
     (λ c. omega (arith, c .before .before .before .before .pre .1 .0))
     (λ c κs. c .before .before .before .before .pre .0 .room)
-    (λ c. let start = c .before .before .before .before .before in (further-none (c .edge-value .ensures), start .pre .1 .1 .1 .2, omega arith))
+    (λ c. let start = c .before .before .before .before .before in (further-none (c .edge-value .ensures), start .pre .1 .1 .1 .1, omega arith))
     (λ c. omega (arith, c .loop .inv))
     (λ c. let l = c .before .loop in omega (arith, odd-some (c .before .before .before .before .before .before .before .args .from) (l .b) (l .inv .1) (c .loop-test .taken)))
     state-requires
