@@ -27,7 +27,7 @@ pub trait Draw {
     fn after(&mut self, y: u32);
 
     /// The values of states in a row, that of g nongood units, from those of the same row
-    /// and of the next.
+    /// and of the next. Never inlined: in a function of its own the loop is compiled better.
     fn row(&self, g: u32, states: Range<usize>, row: &mut [Pair], next: &[Pair]);
 }
 
@@ -126,7 +126,7 @@ impl Draw for Weights {
 
     fn after(&mut self, _: u32) {}
 
-    #[inline(always)]
+    #[inline(never)]
     fn row(&self, _: u32, states: Range<usize>, row: &mut [Pair], next: &[Pair]) {
         let (row, next) = (&mut row[states.clone()], &next[states.start..]);
         each(repeat(self.bad), row, next, |bad, values| {
@@ -157,7 +157,7 @@ impl Draw for Counted {
 
     fn after(&mut self, _: u32) {}
 
-    #[inline(always)]
+    #[inline(never)]
     fn row(&self, _: u32, states: Range<usize>, row: &mut [Pair], next: &[Pair]) {
         let [w0, w1, w2] = self.weights;
         let (row, next) = (&mut row[states.clone()], &next[states.start..]);
@@ -210,7 +210,7 @@ impl Draw for Lot {
         }
     }
 
-    #[inline(always)]
+    #[inline(never)]
     fn row(&self, g: u32, states: Range<usize>, row: &mut [Pair], next: &[Pair]) {
         let start = states.start.max(g.saturating_sub(self.marginal) as usize);
         let end = states.end.min(self.bad as usize + 1);
