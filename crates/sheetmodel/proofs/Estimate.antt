@@ -23,7 +23,7 @@ use Rattle.sheetmodel.specs.Calls.{Outcome, contents, lot}
 use Rattle.sheetmodel.specs.History.{without-last}
 use Rattle.sheetmodel.specs.Estimate.{evidence, estimate-of, estimate-rows, estimate, Fractions, Estimate-laws}
 use Rattle.sheetmodel.proofs.HistoryLaws.{has-unit}
-use Rattle.sheetmodel.proofs.Read.{reads}
+use Rattle.sheetmodel.proofs.Read.{reads-a-sheet}
 use Rattle.sheetmodel.proofs.Outcomes.{by-rows}
 use Rattle.sheetmodel.proofs.ReplyRows.{its-history}
 
@@ -43,7 +43,7 @@ fractions p h b = record { adds-up = counting .length-of (evidence h); at-least-
 module _ (n : ℕ) (w : List ℕ) where
   intact-plan : (o : Option Contents) → read w ≡ o → not (is-some o) ≡ false → admitted (plan-words w) ≡ true
   intact-plan none e c = absurd (true≢false c)
-  intact-plan (some s) e c = reads first-record (omega arith) w s .0 e .plan
+  intact-plan (some s) e c = reads-a-sheet w s .0 e .1 .plan
 
   -- no row applies: the sheet is intact, and the lot is decided
   inspected : None-applies (estimate-rows n w) → 1 ≤ length (history (lot n w))

@@ -10,11 +10,12 @@ use lib.Seq.{getD-take, getD-drop}
 use lib.Dec.{leb, ltb, eqb}
 use borrow.Author.Tests.{le-leb, lt-ltb, eq-eqb, ne-eqb, leb-true, ltb-true, eqb-true}
 use Rattle.plan.specs.Plan.{stages}
-use Rattle.sheetmodel.specs.Layout.{word, field, next, newest, records, next-unused, first-lot, first-free, stage-count, plan-start, plan-room, plan-words, unused-stages, closed-lots, closed-units, free-tag, most-closed}
+use Rattle.sheetmodel.specs.Layout.{word, field, next, newest, records, next-unused, first-lot, first-free, stage-count, plan-start, plan-room, plan-words, unused-stages, share, first-record, closed-lots, closed-units, free-tag, most-closed}
 use Rattle.plan.specs.Sample.{highest-class}
 use Rattle.sheetmodel.specs.Contents.{Inspection, Lot, Contents, records-of}
+use Rattle.sheetmodel.specs.Offices.{shares-fit}
 use Rattle.sheetmodel.specs.Holds.{Inspections, Lots, Free, Holds}
-use Rattle.sheetmodel.specs.Read.{guard, then, serial-at, depth, in-use, read-inspections, read-free, read-lots, read-from, all-undecided-before, all-zero, header-ok, contents-ok, Reads-exactly}
+use Rattle.sheetmodel.specs.Read.{guard, then, serial-at, depth, in-use, read-inspections, read-free, read-lots, read-from, all-undecided-before, all-zero, header-ok, contents-ok, read, Reads-exactly, Reads-a-sheet}
 use Rattle.plan.proofs.Bools.{and-both, and-left, and-right}
 use Rattle.sheetmodel.proofs.HistoryLaws.{undecided-tests, undecided-facts}
 
@@ -261,3 +262,10 @@ sound start w s e =
 
 pub reads : Reads-exactly
 reads start base w s = (sound start w s, complete start base w s)
+
+pub reads-a-sheet : Reads-a-sheet
+unfolding read
+reads-a-sheet w s = (
+  (λ e. let g = guarded (shares-fit (share w) w) (λ ok. read-from first-record w) s e in (g .0, reads first-record (omega arith) w s .0 (g .1))),
+  (λ h. rw (h .0) (reads first-record (omega arith) w s .1 (h .1))),
+)

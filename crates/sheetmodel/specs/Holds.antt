@@ -1,6 +1,7 @@
 -- These words hold these contents: document 01's paragraph "Torn means", clause by clause. `start` is the first record after
--- the header and `hi` the next never used, so an index on a chain is from start to hi - 1. Apart from the reader (Read.antt),
--- which is proved to find exactly this (proofs/Read.antt).
+-- the header and `hi` the next never used, so an index on a chain is from start to hi - 1. The clause on shares (document 02, change
+-- 7) stands apart, in Intact (Start.antt). Apart from the reader (Read.antt), which is proved to find exactly this
+-- (proofs/Read.antt).
 use Prim.Native.Nat.{ℕ, suc, _+_, _*_, _≤_, _<_}
 use mathlib.Core.Path.{_≡_}
 use mathlib.Core.Bool.{true}
@@ -70,14 +71,14 @@ All-undecided-before p (l ∷ ls) = Undecided-before p (history l) × All-undeci
 pub record Holds (start : ℕ) (w : List ℕ) (s : Contents) : Type 0 where
   -- plan not admitted
   pub plan : admitted (plan-words w) ≡ true
-  -- word 0 outside 11 to the record count
+  -- word 0 outside 15 to the record count
   pub begun : start ≤ word w next-unused
   pub room : word w next-unused ≤ records w
-  -- an index outside 11 to word 0 less 1, a rule above broken
+  -- an index outside 15 to word 0 less 1, a rule above broken
   pub unused-zero : (i : ℕ) → 5 * word w stage-count ≤ i → i < plan-room → word w (plan-start + i) ≡ 0
   pub lots : Lots start w (word w next-unused) 0 (s .lots) (word w first-lot)
   pub free : Free start w (word w next-unused) (s .free) (word w first-free)
-  -- the records on chains not word 0 − 11 in number
+  -- the records on chains not word 0 − 15 in number
   pub count : start + (records-of (s .lots) + length (s .free)) ≡ word w next-unused
   -- a lot with an inspection after its earliest stop
   pub undecided-before : All-undecided-before (stages (plan-words w)) (s .lots)

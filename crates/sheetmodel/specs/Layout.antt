@@ -1,4 +1,5 @@
--- The words of a sheet. Document 01, "Sheet": record j is words 4j to 4j + 3, and words 0 to 43 are the header (01: head).
+-- The words of a sheet. Document 01, "Sheet": record j is words 4j to 4j + 3, and words 0 to 59 are the header (01: head); of
+-- these 44 to 59 are the shares of document 02, change 7.
 use Prim.Native.Nat.{ℕ, _+_, _*_, _/_}
 use mathlib.Core.Bool.{Bool, _&&_}
 use mathlib.Core.List.{List}
@@ -7,7 +8,7 @@ use lib.Dec.{leb}
 use Rattle.sheetmodel.specs.declared.reply.Totals.{Totals}
 
 abbrev pub least-size : ℕ
-least-size = 48
+least-size = 64
 
 abbrev pub greatest-size : ℕ
 greatest-size = 65536
@@ -60,12 +61,22 @@ marginal-units = 42
 abbrev pub bad-units : ℕ
 bad-units = 43
 
+-- each office's share of the records; an office is 0 to 15
+abbrev pub shares-start : ℕ
+shares-start = 44
+
+abbrev pub offices : ℕ
+offices = 16
+
+abbrev pub share : List ℕ → ℕ → ℕ
+share w o = word w (shares-start + o)
+
 abbrev pub header-size : ℕ
-header-size = 44
+header-size = 60
 
 -- the first record after the header
 abbrev pub first-record : ℕ
-first-record = 11
+first-record = 15
 
 -- the plan, and the words of unused stages after it
 abbrev pub plan-words : List ℕ → List ℕ

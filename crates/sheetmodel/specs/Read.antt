@@ -13,8 +13,9 @@ use Rattle.plan.specs.declared.stage.Answer.the-variants.{GoOn, Accept, Reject}
 use Rattle.plan.specs.Plan.{Stage, stages, admitted}
 use Rattle.plan.specs.Counts.{counts}
 use Rattle.plan.specs.Stopping.{earliest}
-use Rattle.sheetmodel.specs.Layout.{word, field, next, newest, records, next-unused, first-lot, first-free, first-record, plan-words, unused-stages, closed-lots, closed-units, free-tag, most-closed}
+use Rattle.sheetmodel.specs.Layout.{word, field, next, newest, records, next-unused, first-lot, first-free, first-record, plan-words, unused-stages, share, closed-lots, closed-units, free-tag, most-closed}
 use Rattle.plan.specs.Sample.{highest-class}
+use Rattle.sheetmodel.specs.Offices.{shares-fit}
 use Rattle.sheetmodel.specs.Holds.{Holds}
 use Rattle.sheetmodel.specs.Contents.{Inspection, Lot, Contents, classes, records-of}
 
@@ -106,9 +107,13 @@ read-from start w =
     guard (contents-ok start w (record { lots = ls; free = js })) (λ ok.
     some (record { lots = ls; free = js })))))
 
-abbrev pub read : List ℕ → Option Contents
-read w = read-from first-record w
+-- a sheet whose shares add to more than its records is corrupt
+unfoldable pub read : List ℕ → Option Contents
+read w = guard (shares-fit (share w) w) (λ ok. read-from first-record w)
 
 -- the reader finds exactly what the words hold, from any start but 0, which ends a chain (proofs/Read.antt)
 abbrev pub Reads-exactly : Type 0
 Reads-exactly = (start : ℕ) → 1 ≤ start → (w : List ℕ) (s : Contents) → (read-from start w ≡ some s) ↔ Holds start w s
+
+abbrev pub Reads-a-sheet : Type 0
+Reads-a-sheet = (w : List ℕ) (s : Contents) → (read w ≡ some s) ↔ ((shares-fit (share w) w ≡ true) × Holds first-record w s)

@@ -51,9 +51,9 @@ estimate-own p x = row 10 (undecided (answer-to p x)) ∷ row 15 (ltb 1 (length 
 
 -- ---- the rows that other lots matter through
 
--- a record is needed
-abbrev pub record-rows : Bool → List Refusal
-record-rows full = row 11 full ∷ []
+-- a record is needed: none is left, or the shares deny one
+abbrev pub record-rows : Bool → Bool → List Refusal
+record-rows full held-back = row 11 full ∷ row 19 held-back ∷ []
 
 -- a lot is closed
 abbrev pub totals-rows : Bool → List Refusal
