@@ -27,7 +27,7 @@ use Rattle.sheetmodel.specs.Layout.{largest, least-size, newest, plan-words, to
 use Rattle.sheetmodel.specs.Contents.{Lot, history, find, records-of}
 use Rattle.sheetmodel.specs.Read.{undecided}
 use Rattle.sheetmodel.specs.Rows.{is-some, classes-in, answer-to, open-own, lot-rows, inspect-own, strike-own, close-own, record-rows, totals-rows}
-use Rattle.sheetmodel.specs.Calls.{Outcome, standing, lot, full, tally-full, sheet-rows, last-below, predecessor, new-record, open-lot, open-rows, with-lot, inspect, inspect-rows, with-inspection, strike, strike-rows, without-newest, close, close-rows, without-lot, look, look-rows, shown, tally, tally-rows}
+use Rattle.sheetmodel.specs.Calls.{Outcome, standing, lot, full, held-back, tally-full, sheet-rows, last-below, predecessor, new-record, open-lot, open-rows, with-lot, inspect, inspect-rows, with-inspection, strike, strike-rows, without-newest, close, close-rows, without-lot, look, look-rows, shown, tally, tally-rows}
 use Rattle.sheet.specs.Writes.{In-words, Room, Striking, Closing, lot-at}
 use Rattle.sheet.specs.Survey.{found}
 use Rattle.sheet.specs.Locating.{located}
@@ -51,14 +51,18 @@ found-before n (some l) b u = refl
 -- ---- open
 
 module _ (n : ℕ) (w : List ℕ) where
+  -- a record is needed for the lot n
+  abbrev pub needed : List Refusal
+  needed = record-rows (full w) (held-back n w)
+
   pub open-refused : (r : ℕ) → located n w [] ≡ Refused r → open-lot n w ≡ refusal w r
   unfolding open-lot open-rows
-  open-refused r e = refuses done.Refused w done.Ok _ (open-rows n w) r (first-append (sheet-rows w []) (open-own n (standing n w) ++ record-rows (full w)) r (refused-first n w [] r e))
+  open-refused r e = refuses done.Refused w done.Ok _ (open-rows n w) r (first-append (sheet-rows w []) (open-own n (standing n w) ++ needed) r (refused-first n w [] r e))
 
   module _ (f : Found) (k : Whole n w f) where
-    open-row : (r : ℕ) → First (open-own n (standing n w) ++ record-rows (full w)) r → open-lot n w ≡ refusal w r
+    open-row : (r : ℕ) → First (open-own n (standing n w) ++ needed) r → open-lot n w ≡ refusal w r
     unfolding open-lot open-rows
-    open-row r x = refuses done.Refused w done.Ok _ (open-rows n w) r (behind w (k .contents) (k .size) (k .reads) (open-own n (standing n w) ++ record-rows (full w)) r x)
+    open-row r x = refuses done.Refused w done.Ok _ (open-rows n w) r (behind w (k .contents) (k .size) (k .reads) (open-own n (standing n w) ++ needed) r x)
 
     pub open-zero : n ≡ 0 → open-lot n w ≡ refusal w 4
     open-zero e = open-row 4 (inl (eq-eqb n 0 e, refl))
@@ -69,20 +73,20 @@ module _ (n : ℕ) (w : List ℕ) where
     new-lot : n ≢ 0 → f .at ≡ 0 → None-applies (open-own n (standing n w))
     new-lot d e = (ne-eqb n 0 d, (rw (k .reads, absent n w f k e) refl, tt))
 
-    pub open-denied : n ≢ 0 → f .at ≡ 0 → (r : ℕ) → grant-by (record-rows (full w)) ≡ grant.Refused r → open-lot n w ≡ refusal w r
-    open-denied d e r g = open-row r (first-after (open-own n (standing n w)) (record-rows (full w)) r (new-lot d e) (denied (record-rows (full w)) r g))
+    pub open-denied : n ≢ 0 → f .at ≡ 0 → (r : ℕ) → grant-by needed ≡ grant.Refused r → open-lot n w ≡ refusal w r
+    open-denied d e r g = open-row r (first-after (open-own n (standing n w)) needed r (new-lot d e) (denied needed r g))
 
     before-is : f .before ≡ predecessor n w
     before-is = rw (k .reads) (ap (λ (g : Found). g .before) (k .is) ∙ found-before n (find n (k .contents .lots)) (last-below n 0 (k .contents .lots)) (records-of (k .contents .lots)))
 
-    pub open-requires : grant-by (record-rows (full w)) ≡ grant.Record → Room w × In-words w (f .before)
-    open-requires g = rw before-is (can-open w (k .contents) (k .size) (k .reads) n (given (record-rows (full w)) g .0))
+    pub open-requires : grant-by needed ≡ grant.Record → Room w × In-words w (f .before)
+    open-requires g = rw before-is (can-open w (k .contents) (k .size) (k .reads) n (given needed g .0))
 
-    pub open-granted : n ≢ 0 → f .at ≡ 0 → grant-by (record-rows (full w)) ≡ grant.Record → open-lot n w ≡ ok (with-lot w n (f .before) (new-record w))
+    pub open-granted : n ≢ 0 → f .at ≡ 0 → grant-by needed ≡ grant.Record → open-lot n w ≡ ok (with-lot w n (f .before) (new-record w))
     unfolding open-lot open-rows
     open-granted d e g =
         grants done.Refused w done.Ok _ (open-rows n w)
-        (all-behind w (k .contents) (k .size) (k .reads) (open-own n (standing n w) ++ record-rows (full w)) (none-append (open-own n (standing n w)) (record-rows (full w)) (new-lot d e) (given (record-rows (full w)) g))) ∙
+        (all-behind w (k .contents) (k .size) (k .reads) (open-own n (standing n w) ++ needed) (none-append (open-own n (standing n w)) needed (new-lot d e) (given needed g))) ∙
         ap (λ (before : ℕ). ok (with-lot w n before (new-record w))) (sym before-is)
 
 -- ---- the calls on a lot
@@ -146,7 +150,7 @@ first-rows n w rest r e = first-append (sheet-rows w (lot-rows (standing n w) []
 
 module _ (n c : ℕ) (w : List ℕ) where
   abbrev inspect-rest : List Refusal
-  inspect-rest = inspect-own (plan-words w) (standing n w) c ++ record-rows (full w)
+  inspect-rest = inspect-own (plan-words w) (standing n w) c ++ needed n w
 
   pub inspect-refused : (r : ℕ) → located n w (lot-rows (standing n w) []) ≡ Refused r → inspect n c w ≡ refusal w r
   unfolding inspect inspect-rows
@@ -165,19 +169,19 @@ module _ (n c : ℕ) (w : List ℕ) where
       inspect-decided u = inspect-row 8 (inr (le-ltb highest-class c h, inl (rw (as-rows-ask n w f k false u) refl, refl)))
 
       module _ (u : undecided (earliest (stages (plan-words w)) (f .counts)) ≡ true) where
-        pub inspect-denied : (r : ℕ) → grant-by (record-rows (full w)) ≡ grant.Refused r → inspect n c w ≡ refusal w r
-        inspect-denied r g = inspect-row r (inr (le-ltb highest-class c h, inr (rw (as-rows-ask n w f k true u) refl, denied (record-rows (full w)) r g)))
+        pub inspect-denied : (r : ℕ) → grant-by (needed n w) ≡ grant.Refused r → inspect n c w ≡ refusal w r
+        inspect-denied r g = inspect-row r (inr (le-ltb highest-class c h, inr (rw (as-rows-ask n w f k true u) refl, denied (needed n w) r g)))
 
-        pub inspect-granted : grant-by (record-rows (full w)) ≡ grant.Record → inspect n c w ≡ ok (with-inspection w (f .at) (units (f .counts)) c (new-record w))
+        pub inspect-granted : grant-by (needed n w) ≡ grant.Record → inspect n c w ≡ ok (with-inspection w (f .at) (units (f .counts)) c (new-record w))
         unfolding inspect inspect-rows
         inspect-granted g =
             grants done.Refused w done.Ok _ (inspect-rows n c w)
-            (all-past-lot n w f k inspect-rest (le-ltb highest-class c h, (rw (as-rows-ask n w f k true u) refl, given (record-rows (full w)) g))) ∙
+            (all-past-lot n w f k inspect-rest (le-ltb highest-class c h, (rw (as-rows-ask n w f k true u) refl, given (needed n w) g))) ∙
             ap ok (rw (found-lot n w f k, at-is n w f k, units-are n w f k))
 
-    pub inspect-requires : grant-by (record-rows (full w)) ≡ grant.Record → Room w × In-words w (f .at) × (units (f .counts) < largest)
+    pub inspect-requires : grant-by (needed n w) ≡ grant.Record → Room w × In-words w (f .at) × (units (f .counts) < largest)
     inspect-requires g =
-        rw (at-is n w f k, units-are n w f k) (can-inspect w (k .contents) (k .size) (k .reads) n (k .lot) (k .finds) (given (record-rows (full w)) g .0))
+        rw (at-is n w f k, units-are n w f k) (can-inspect w (k .contents) (k .size) (k .reads) n (k .lot) (k .finds) (given (needed n w) g .0))
 
 -- ---- strike
 

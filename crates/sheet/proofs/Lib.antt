@@ -14,6 +14,7 @@ mod TotalsKept
 mod Unlinked
 mod HeaderWords
 mod Requires
+mod OfficeSteps
 -- of the calls
 mod FreshOutcome
 mod LocatedFacts

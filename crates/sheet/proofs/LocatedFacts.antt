@@ -13,13 +13,15 @@ use Rattle.sheet.specs.declared.survey.Found.{Found}
 use Rattle.sheet.specs.declared.survey.Surveyed.the-variants.{Corrupt, Intact}
 use Rattle.sheet.specs.declared.locating.Located.{Located}
 use Rattle.sheet.specs.declared.locating.Located.the-variants.{Refused, At}
-use Rattle.sheetmodel.specs.Layout.{size-ok}
+use Rattle.sheetmodel.specs.Layout.{size-ok, share, first-record}
 use Rattle.sheetmodel.specs.Contents.{Lot, Contents, find, records-of}
-use Rattle.sheetmodel.specs.Read.{read}
-use Rattle.sheetmodel.specs.Rows.{lot-rows}
+use Rattle.sheetmodel.specs.Offices.{shares-fit}
+use Rattle.sheetmodel.specs.Read.{read, read-from}
+use Rattle.sheetmodel.specs.Rows.{is-some, lot-rows}
 use Rattle.sheetmodel.specs.Calls.{standing, sheet-rows, last-below}
 use Rattle.sheet.specs.Survey.{found, survey-of}
 use Rattle.sheet.specs.Locating.{found-on, located}
+use Rattle.sheet.specs.Sharing.{Whole-sheet}
 use Rattle.sheetmodel.proofs.ForSheet.{some-value, some-lot}
 use Rattle.sheet.proofs.Requires.{lot-after-header}
 
@@ -65,21 +67,40 @@ pub record With-lot (n : ℕ) (w : List ℕ) (f : Found) : Type 0 where
   pub finds : find n (contents .lots) ≡ some lot
   pub is : f ≡ found n (some lot) (last-below n 0 (contents .lots)) (records-of (contents .lots))
 
+-- so rows 1 and 3 do not apply
+pub whole-sheet : (n : ℕ) (w : List ℕ) (f : Found) → Whole n w f → Whole-sheet w
+whole-sheet n w f k = record { size = k .size; intact = ap is-some (k .reads) }
+
+pub lot-whole-sheet : (n : ℕ) (w : List ℕ) (f : Found) → With-lot n w f → Whole-sheet w
+lot-whole-sheet n w f k = record { size = k .size; intact = ap is-some (k .reads) }
+
 module _ (n : ℕ) (w : List ℕ) where
   -- ---- what the tests say
 
   pub wrong-size : size-ok w ≡ false → located n w [] ≡ Refused 1
   wrong-size z = refusing n w [] 1 (inl (rw z refl, refl))
 
-  pub corrupt : size-ok w ≡ true → survey-of n (read w) ≡ Corrupt → located n w [] ≡ Refused 3
-  corrupt z e = go (read w) refl e
+  no-contents : size-ok w ≡ true → read w ≡ none → located n w [] ≡ Refused 3
+  no-contents z r = refusing n w [] 3 (inr (rw z refl, inl (rw r refl, refl)))
+
+  pub too-many-shares : size-ok w ≡ true → shares-fit (share w) w ≡ false → located n w [] ≡ Refused 3
+  unfolding read
+  too-many-shares z u = no-contents z (rw u refl)
+
+  -- where the shares fit, the sheet is what is read from its first record on
+  fitting : shares-fit (share w) w ≡ true → read w ≡ read-from first-record w
+  unfolding read
+  fitting u = rw u refl
+
+  pub corrupt : size-ok w ≡ true → shares-fit (share w) w ≡ true → survey-of n (read-from first-record w) ≡ Corrupt → located n w [] ≡ Refused 3
+  corrupt z u e = go (read w) refl (rw (fitting u) e)
     where
       go : (o : Option Contents) → read w ≡ o → survey-of n o ≡ Corrupt → located n w [] ≡ Refused 3
-      go none r e = refusing n w [] 3 (inr (rw z refl, inl (rw r refl, refl)))
+      go none r e = no-contents z r
       go (some s) r e = let y : _≡_ {A = ℕ} 0 1 = cc in absurd (omega arith)
 
-  pub intact : (f : Found) → size-ok w ≡ true → survey-of n (read w) ≡ Intact f → located n w [] ≡ At f
-  intact f z e = go (read w) refl e
+  pub intact : (f : Found) → size-ok w ≡ true → shares-fit (share w) w ≡ true → survey-of n (read-from first-record w) ≡ Intact f → located n w [] ≡ At f
+  intact f z u e = go (read w) refl (rw (fitting u) e)
     where
       go : (o : Option Contents) → read w ≡ o → survey-of n o ≡ Intact f → located n w [] ≡ At f
       go none r e = let y : _≡_ {A = ℕ} 0 1 = cc in absurd (omega arith)

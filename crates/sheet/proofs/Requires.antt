@@ -23,7 +23,7 @@ use Rattle.sheetmodel.specs.Calls.{full, last-below, predecessor, lots-total, l
 use Rattle.sheet.specs.Survey.{Sized}
 use Rattle.sheet.specs.Writes.{In-words, Room, Freeing, Striking, Totals-fit, Closing, read-chain, lot-at}
 use Rattle.sheet.proofs.Sizes.{long-enough, short-enough}
-use Rattle.sheetmodel.proofs.ForSheet.{reads, reads-inspections, serials, depths, records-of-parts, Prior, prior-header, took, Found, find-lot, within, found-history}
+use Rattle.sheetmodel.proofs.ForSheet.{reads-a-sheet, reads-inspections, serials, depths, records-of-parts, Prior, prior-header, took, Found, find-lot, within, found-history}
 
 -- the front of a free chain is 0 or a record in use
 record Front (hi at : ℕ) : Type 0 where
@@ -43,7 +43,7 @@ one-total w Reject = omega arith
 -- a sheet of an allowed size that is not corrupt
 module _ (w : List ℕ) (s : Contents) (size : size-ok w ≡ true) (r : read w ≡ some s) where
   pub holds : Holds first-record w s
-  holds = reads first-record (omega arith) w s .0 r
+  holds = reads-a-sheet w s .0 r .1
 
   pub sized : Sized w
   sized = record {
@@ -66,7 +66,7 @@ module _ (w : List ℕ) (s : Contents) (size : size-ok w ≡ true) (r : read w �
   front : Front (word w next-unused) (word w first-free)
   front = front-of w (word w next-unused) (word w first-free) (s .free) (holds .begun) (holds .free)
 
-  freeing : (n : ℕ) → n ≤ length w → Freeing w n
+  pub freeing : (n : ℕ) → n ≤ length w → Freeing w n
   freeing n few = record {
     sized = sized;
     front = omega (arith, front .high, holds .room);

@@ -3,3 +3,4 @@ pub mod Writes
 pub mod Locating
 pub mod Estimating
 pub mod Granting
+pub mod Sharing

@@ -30,7 +30,7 @@ use Rattle.sheetmodel.specs.Calls.{last-below}
 abbrev pub record-at : List ℕ → ℕ → Record
 record-at w j = record { value = field w j 0; next = field w j 1; link = field w j 2; tag = field w j 3 }
 
--- 48 to 65,536 words, and no record in use beyond them
+-- 64 to 65,536 words, and no record in use beyond them
 pub record Sized (w : List ℕ) : Type 0 where
   pub long : least-size ≤ length w
   pub short : length w ≤ greatest-size

@@ -12,7 +12,7 @@ ghost use Rattle.sheetmodel.specs.Calls.{free-record, free-inspections};
 ghost use Rattle.sheet.specs.Writes.{In-words, Freeing, read-chain, chain};
 
 // The depth of the first free record; 0 if there is none.
-fn depth_of(sheet: &[u32]) -> u32
+pub fn depth_of(sheet: &[u32]) -> u32
     requires { ⌜ Freeing (now sheet) 1 ⌝ }
     ensures { λ r. ⌜ r ≡ depth (now (sheet .entry)) ⌝ }
 {

@@ -1,14 +1,17 @@
-// A new record: the first free, else the next never used. Document 01, "Sheet".
+// A new record: whether it is granted, and which it is: the first free, else the next never used. Document
+// 01, "Sheet"; document 02, change 7.
 use crate::layout::FIRST_FREE;
 use crate::layout::NEXT_UNUSED;
+use crate::offices::may_take;
 use crate::record::field_of;
 use crate::record::record_count;
 ghost use mathlib.Core.Path.{_≡_};
 ghost use Prim.Native.Nat.{_≤_};
 ghost use lib.ListN.{length};
 ghost use Rattle.sheetmodel.specs.Rows.{record-rows};
-ghost use Rattle.sheetmodel.specs.Calls.{full, new-record, take-record};
+ghost use Rattle.sheetmodel.specs.Calls.{full, held-back, new-record, take-record};
 ghost use Rattle.sheet.specs.Granting.{grant-by};
+ghost use Rattle.sheet.specs.Sharing.{Whole-sheet};
 ghost use Rattle.sheet.specs.Writes.{Room};
 ghost use Rattle.sheetmodel.specs.Layout.{least-size};
 
@@ -29,13 +32,16 @@ fn is_full(sheet: &[u32]) -> bool
     record_count(sheet) <= sheet[NEXT_UNUSED] as usize
 }
 
-// The rows about a record that is needed.
-pub fn grant_record(sheet: &[u32]) -> Grant
-    requires { ⌜ least-size ≤ length (now sheet) ⌝ }
-    ensures { λ r. ⌜ r ≡ grant-by (record-rows (full (now (sheet .entry)))) ⌝ }
+// The rows about a record that is needed for a lot.
+pub fn grant_record(sheet: &[u32], lot: u32) -> Grant
+    requires { ⌜ Whole-sheet (now sheet) ⌝ }
+    ensures { λ r. ⌜ r ≡ grant-by (record-rows (full (now (sheet .entry))) (held-back lot (now (sheet .entry)))) ⌝ }
 {
     if is_full(sheet) {
         return Grant::Refused(11);
+    }
+    if !may_take(sheet, lot) {
+        return Grant::Refused(19);
     }
     Grant::Record
 }

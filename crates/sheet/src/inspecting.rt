@@ -1,4 +1,5 @@
-// The call inspect: one unit more of a lot, of this class. Document 01, "Sheet" and "Refused".
+// The call inspect: one unit more of a lot, of this class. Document 01, "Sheet" and "Refused";
+// document 02, change 7.
 use crate::granting::Grant;
 use crate::granting::grant_record;
 use crate::locating::Located;
@@ -23,7 +24,7 @@ pub fn inspect(sheet: &mut [u32], lot: u32, class: u32) -> Done
             if !is_undecided(answer_to(sheet, f.counts)) {
                 return Done::Refused(8);
             }
-            match grant_record(sheet) {
+            match grant_record(sheet, lot) {
                 Grant::Refused(n) => Done::Refused(n),
                 Grant::Record => {
                     add_inspection(sheet, f.at, plan::units(f.counts), class);

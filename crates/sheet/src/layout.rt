@@ -1,5 +1,6 @@
-// The places of the words in a sheet's header, and the fixed numbers of a sheet. Document 01, "Sheet".
-pub const LEAST_SIZE: usize = 48;
+// The places of the words in a sheet's header, and the fixed numbers of a sheet. Document 01, "Sheet";
+// document 02, change 7.
+pub const LEAST_SIZE: usize = 64;
 
 pub const GREATEST_SIZE: usize = 65536;
 
@@ -23,10 +24,15 @@ pub const MARGINAL_UNITS: usize = 42;
 
 pub const BAD_UNITS: usize = 43;
 
-pub const HEADER_SIZE: usize = 44;
+// each office's share of the records
+pub const SHARES_START: usize = 44;
+
+pub const OFFICES: usize = 16;
+
+pub const HEADER_SIZE: usize = 60;
 
 // the first record after the header
-pub const FIRST_RECORD: u32 = 11;
+pub const FIRST_RECORD: u32 = 15;
 
 // the last word of every free record
 pub const FREE_TAG: u32 = 4294967295;

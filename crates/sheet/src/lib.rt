@@ -11,6 +11,7 @@ mod inspecting;
 mod layout;
 mod locating;
 mod looking;
+mod offices;
 mod opening;
 mod progress;
 mod record;

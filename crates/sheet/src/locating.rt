@@ -1,5 +1,6 @@
 // The first rows of the table for calls on a sheet: its size, its contents, and the lot of a number.
 use crate::layout::FIRST_RECORD;
+use crate::offices::shares_fit;
 use crate::size::size_ok;
 use crate::survey::Found;
 use crate::survey::Surveyed;
@@ -22,6 +23,9 @@ pub fn locate(sheet: &[u32], lot: u32) -> Located
 {
     if !size_ok(sheet) {
         return Located::Refused(1);
+    }
+    if !shares_fit(sheet) {
+        return Located::Refused(3);
     }
     match survey(sheet, FIRST_RECORD, lot) {
         Surveyed::Corrupt => Located::Refused(3),

@@ -1,4 +1,4 @@
-// The call open: a new lot of this number. Document 01, "Sheet" and "Refused".
+// The call open: a new lot of this number. Document 01, "Sheet" and "Refused"; document 02, change 7.
 use crate::granting::Grant;
 use crate::granting::grant_record;
 use crate::locating::Located;
@@ -21,7 +21,7 @@ pub fn open(sheet: &mut [u32], lot: u32) -> Done
             if f.at != 0 {
                 return Done::Refused(5);
             }
-            match grant_record(sheet) {
+            match grant_record(sheet, lot) {
                 Grant::Refused(n) => Done::Refused(n),
                 Grant::Record => {
                     add_lot(sheet, lot, f.before);

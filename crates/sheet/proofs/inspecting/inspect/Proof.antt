@@ -10,8 +10,8 @@ use Rattle.plan.specs.Stopping.{earliest}
 use Rattle.sheetmodel.specs.Layout.{plan-words}
 use Rattle.sheetmodel.specs.Read.{undecided}
 use Rattle.sheet.specs.declared.survey.Found.{Found}
-use Rattle.sheet.proofs.LocatedFacts.{With-lot, with-lot}
-use Rattle.sheet.proofs.CallSteps.{answer-requires, long, few, inspect-refused, inspect-class, inspect-decided, inspect-denied, inspect-requires, inspect-granted}
+use Rattle.sheet.proofs.LocatedFacts.{With-lot, with-lot, lot-whole-sheet}
+use Rattle.sheet.proofs.CallSteps.{answer-requires, few, inspect-refused, inspect-class, inspect-decided, inspect-denied, inspect-requires, inspect-granted}
 use Rattle.sheet.proofs.inspecting.inspect.Statement.{statement}
 use Rattle.sheet.proofs.inspecting.inspect.Tie as tie
 
@@ -58,7 +58,7 @@ returns-2 c =
 grant-record-requires : tie.Need-grant-record-requires
 grant-record-requires c κs =
     let k = c .before .before .before .before .before .before in
-    long (lot-of k) (words k) (found k) (facts k)
+    lot-whole-sheet (lot-of k) (words k) (found k) (facts k)
 
 units-requires : tie.Need-units-requires
 units-requires c κs =

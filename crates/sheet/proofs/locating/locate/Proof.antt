@@ -1,11 +1,12 @@
--- `sheet::locate` meets its contract: the size, then the survey. Assumes nothing.
+-- `sheet::locate` meets its contract: the size, the shares, then the survey. Assumes nothing.
 use mathlib.Core.Path.{_≡_, sym, _∙_}
 use mathlib.Core.Bool.{true}
 use borrow.Author.Needs.{needs}
 use borrow.Author.Tests.{not-true, not-false}
-use Rattle.sheetmodel.specs.Layout.{size-ok}
+use Rattle.sheetmodel.specs.Layout.{size-ok, share}
+use Rattle.sheetmodel.specs.Offices.{shares-fit}
 use Rattle.sheet.proofs.Sizes.{long-enough, short-enough}
-use Rattle.sheet.proofs.LocatedFacts.{wrong-size, corrupt, intact}
+use Rattle.sheet.proofs.LocatedFacts.{wrong-size, too-many-shares, corrupt, intact}
 use Rattle.sheet.proofs.locating.locate.Statement.{statement}
 use Rattle.sheet.proofs.locating.locate.Tie as tie
 
@@ -17,23 +18,40 @@ returns c =
 size-is : (c : tie.Else1) → size-ok (c .before .before .before .args .sheet .now) ≡ true
 size-is c = sym (c .before .size-ok .ensures) ∙ not-false _ (c .if1 .left)
 
-survey-requires : tie.Need-survey-requires
-survey-requires c κs =
+shares-fit-requires : tie.Need-shares-fit-requires
+shares-fit-requires c κs =
     let w = c .before .before .before .args .sheet .now in
     (long-enough w (size-is c), short-enough w (size-is c))
 
 returns-2 : tie.Need-returns-2
 returns-2 c =
-    let s = c .before .before in
-    let a = s .before .before .before .before .args in
-    sym (corrupt (a .lot) (a .sheet .now) (size-is (s .before)) (sym (s .survey .ensures) ∙ c .enum-told .given .1))
+    let i = c .before .before in
+    let a = i .before .before .before .args in
+    sym (too-many-shares (a .lot) (a .sheet .now) (size-is i) (sym (c .before .shares-fit .ensures) ∙ not-true _ (c .if2 .taken)))
+
+shares-are : (c : tie.Else2) → shares-fit (share (c .before .before .before .before .before .args .sheet .now)) (c .before .before .before .before .before .args .sheet .now) ≡ true
+shares-are c = sym (c .before .shares-fit .ensures) ∙ not-false _ (c .if2 .left)
+
+survey-requires : tie.Need-survey-requires
+survey-requires c κs =
+    let i = c .before .before in
+    let w = i .before .before .before .args .sheet .now in
+    (long-enough w (size-is i), short-enough w (size-is i))
 
 returns-3 : tie.Need-returns-3
 returns-3 c =
+    let s = c .before .before in
+    let i = s .before .before .before in
+    let a = i .before .before .before .args in
+    sym (corrupt (a .lot) (a .sheet .now) (size-is i) (shares-are (s .before)) (sym (s .survey .ensures) ∙ c .enum-told .given .1))
+
+returns-4 : tie.Need-returns-4
+returns-4 c =
     let s = c .before .before .before in
+    let i = s .before .before .before in
     let f = c .before .f .given in
-    let a = s .before .before .before .before .args in
-    sym (intact (a .lot) (a .sheet .now) (f .0 .0) (size-is (s .before)) (sym (s .survey .ensures) ∙ f .1))
+    let a = i .before .before .before .args in
+    sym (intact (a .lot) (a .sheet .now) (f .0 .0) (size-is i) (shares-are (s .before)) (sym (s .survey .ensures) ∙ f .1))
 
 pub locate-spec : {M : Type 1} → statement M
 locate-spec =
@@ -41,8 +59,10 @@ locate-spec =
     (tie.spec
     (λ c κs. search needs)
     returns
+    shares-fit-requires
+    returns-2
     survey-requires
     (λ c. search needs)
     (λ c. search needs)
-    returns-2
-    returns-3)
+    returns-3
+    returns-4)

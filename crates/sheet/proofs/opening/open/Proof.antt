@@ -4,8 +4,7 @@ use mathlib.Core.Path.{_≡_, refl, sym, _∙_}
 use mathlib.Core.List.{List}
 use borrow.Author.Needs.{needs}
 use Rattle.sheet.specs.declared.survey.Found.{Found}
-use Rattle.sheet.proofs.Sizes.{long-enough}
-use Rattle.sheet.proofs.LocatedFacts.{Whole, whole}
+use Rattle.sheet.proofs.LocatedFacts.{Whole, whole, whole-sheet}
 use Rattle.sheet.proofs.CallSteps.{open-refused, open-zero, open-there, open-denied, open-requires, open-granted}
 use Rattle.sheet.proofs.opening.open.Statement.{statement}
 use Rattle.sheet.proofs.opening.open.Tie as tie
@@ -40,7 +39,7 @@ returns-2 c =
 grant-record-requires : tie.Need-grant-record-requires
 grant-record-requires c κs =
     let k = c .before .before .before .before in
-    long-enough (words k) (facts k .size)
+    whole-sheet (lot-of k) (words k) (found k) (facts k)
 
 add-lot-requires : tie.Need-add-lot-requires
 add-lot-requires c κs =

@@ -1,20 +1,20 @@
--- `sheet::put_header` meets its contract. The loop's invariant is how far the header is written. Assumes nothing.
+-- `sheet::put_plan` meets its contract. The loop's invariant is how far the header is written. Assumes nothing.
 use Prim.Native.Nat.{_-_, _/_}
 use mathlib.Core.Path.{_≡_, _∙_}
 use native.Mathlib.Omega.{arith}
 use lib.ListN.{length, length-set}
 use Rattle.plan.specs.Plan.{stages}
 use Rattle.plan.proofs.Promise.{shape}
-use Rattle.sheetmodel.specs.Layout.{header-size, plan-start}
+use Rattle.sheetmodel.specs.Layout.{shares-start, plan-start}
 use Rattle.sheet.proofs.HeaderWords.{Written-to, begun, one-more, all-written, fresh-first}
-use Rattle.sheet.proofs.fresh_sheet.put_header.Statement.{statement}
-use Rattle.sheet.proofs.fresh_sheet.put_header.Tie as tie
+use Rattle.sheet.proofs.fresh_sheet.put_plan.Statement.{statement}
+use Rattle.sheet.proofs.fresh_sheet.put_plan.Tie as tie
 
 abbrev Inv-loop : tie.InvT-loop
 Inv-loop sheet₀ plan i₀ sheet i = Written-to plan sheet₀ sheet i
 
 abbrev μ-loop : tie.MeasureT-loop
-μ-loop sheet₀ plan i₀ sheet i = header-size - plan-start - i
+μ-loop sheet₀ plan i₀ sheet i = shares-start - plan-start - i
 
 -- k
 stage-count : (c : tie.Start Inv-loop μ-loop) → length (c .args .plan .now) / 5 ≡ length (stages (c .args .plan .now))
@@ -72,8 +72,8 @@ returns c =
     all-written (s .args .plan .now) _ (s .pre .2) (c .before .loop .inv) (c .loop-test .left) ∙
     fresh-first (s .args .plan .now) (s .args .sheet .now) (length (s .args .plan .now) / 5) (s .pre .0) (stage-count s)
 
-pub put-header-spec : {M : Type 1} → statement M
-put-header-spec =
+pub put-plan-spec : {M : Type 1} → statement M
+put-plan-spec =
     tie.close
     (tie.spec
     Inv-loop

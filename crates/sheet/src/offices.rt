@@ -1,0 +1,142 @@
+// Offices and their shares of the records: which shares a sheet may have, and whether a record may be taken.
+// Document 02, change 7.
+use crate::freeing::depth_of;
+use crate::layout::FIRST_LOT;
+use crate::layout::FIRST_RECORD;
+use crate::layout::NEXT_UNUSED;
+use crate::layout::OFFICES;
+use crate::layout::SHARES_START;
+use crate::record::field_of;
+use crate::record::record_at;
+use crate::record::record_count;
+ghost use mathlib.Core.Path.{_≡_};
+ghost use Prim.Native.Nat.{_+_, _-_, _*_, _≤_, _<_};
+ghost use lib.ListN.{length};
+ghost use lib.Dec.{leb};
+ghost use Rattle.sheetmodel.specs.Layout.{least-size, greatest-size, word, records, first-record, next-unused, offices, share};
+ghost use Rattle.sheetmodel.specs.Offices.{office, added-up, shares-fit, may-take};
+ghost use Rattle.sheetmodel.specs.Read.{serial-at, depth};
+ghost use Rattle.sheetmodel.specs.Calls.{contents};
+ghost use Rattle.sheet.specs.Sharing.{Whole-sheet, Held-by};
+
+// Sixteen words, from the word `from` on, added up.
+fn sum_of(words: &[u32], from: usize) -> u64
+    requires { ⌜ (from + offices ≤ length (now words)) × (length (now words) ≤ greatest-size) ⌝ }
+    ensures { λ r. ⌜ r ≡ added-up offices (λ o. word (now (words .entry)) (from + o)) ⌝ }
+{
+    let mut sum: u64 = 0;
+    let mut o: usize = 0;
+    while o < OFFICES {
+        sum += words[from + o] as u64;
+        o += 1;
+    }
+    sum
+}
+
+// Are there as many records after the header?
+fn has_records(sheet: &[u32], n: u64) -> bool
+    requires { ⌜ (least-size ≤ length (now sheet)) × (length (now sheet) ≤ greatest-size) ⌝ }
+    ensures { λ r. ⌜ r ≡ leb n (records (now (sheet .entry)) - first-record) ⌝ }
+{
+    n <= record_count(sheet) as u64 - FIRST_RECORD as u64
+}
+
+// Do the shares in the header add to no more than the records after it?
+pub fn shares_fit(sheet: &[u32]) -> bool
+    requires { ⌜ (least-size ≤ length (now sheet)) × (length (now sheet) ≤ greatest-size) ⌝ }
+    ensures { λ r. ⌜ r ≡ shares-fit (share (now (sheet .entry))) (now (sheet .entry)) ⌝ }
+{
+    has_records(sheet, sum_of(sheet, SHARES_START))
+}
+
+// Would these?
+pub fn given_shares_fit(sheet: &[u32], shares: &[u32; 16]) -> bool
+    requires { ⌜ (least-size ≤ length (now sheet)) × (length (now sheet) ≤ greatest-size) ⌝ }
+    ensures { λ r. ⌜ r ≡ shares-fit (word (now (shares .entry))) (now (sheet .entry)) ⌝ }
+{
+    has_records(sheet, sum_of(shares, 0))
+}
+
+fn office_of(lot: u32) -> usize
+    ensures { λ r. ⌜ r ≡ office lot ⌝ }
+{
+    lot as usize % OFFICES
+}
+
+// How many inspections a chain has, by the serial of its newest one (0: none).
+fn inspection_count(sheet: &[u32], newest: u32) -> u32
+    requires { ⌜ (4 * newest + 3 < length (now sheet)) × (length (now sheet) ≤ greatest-size) ⌝ }
+    ensures { λ r. ⌜ r ≡ serial-at (now (sheet .entry)) newest ⌝ }
+{
+    if newest == 0 {
+        return 0;
+    }
+    field_of(sheet, newest, 3)
+}
+
+// The records that each office holds: its lots and their inspections.
+fn held_by_office(sheet: &[u32]) -> [u32; 16]
+    requires { ⌜ Whole-sheet (now sheet) ⌝ }
+    ensures { λ r. ⌜ Held-by (contents (now (sheet .entry)) .lots) r ⌝ }
+{
+    let mut held = [0u32; 16];
+    let mut at = sheet[FIRST_LOT];
+    while at != 0 {
+        let r = record_at(sheet, at);
+        let o = office_of(r.value);
+        held[o] = held[o] + (1 + inspection_count(sheet, r.link));
+        at = r.next;
+    }
+    held
+}
+
+// What an office lacks to reach its share, not below 0.
+fn lacking(share: u32, held: u32) -> u32
+    ensures { λ r. ⌜ r ≡ share - held ⌝ }
+{
+    if held < share {
+        return share - held;
+    }
+    0
+}
+
+// What the offices lack to reach their shares, added up.
+fn all_lacking(sheet: &[u32], held: &[u32; 16]) -> u64
+    requires { ⌜ least-size ≤ length (now sheet) ⌝ }
+    ensures { λ r. ⌜ r ≡ added-up offices (λ o. share (now (sheet .entry)) o - word (now (held .entry)) o) ⌝ }
+{
+    let mut sum: u64 = 0;
+    let mut o: usize = 0;
+    while o < OFFICES {
+        sum += lacking(sheet[SHARES_START + o], held[o]) as u64;
+        o += 1;
+    }
+    sum
+}
+
+// The records free and unused.
+fn spare(sheet: &[u32]) -> u64
+    requires { ⌜ Whole-sheet (now sheet) ⌝ }
+    ensures { λ r. ⌜ r ≡ depth (now (sheet .entry)) + (records (now (sheet .entry)) - word (now (sheet .entry)) next-unused) ⌝ }
+{
+    let unused = record_count(sheet) as u64 - sheet[NEXT_UNUSED] as u64;
+    depth_of(sheet) as u64 + unused
+}
+
+// May the office of a lot take a record? Where more records are left than all shares add to, it may, and no
+// lot need be asked. An office that has its share lacks nothing, so that all lack what the others lack.
+pub fn may_take(sheet: &[u32], lot: u32) -> bool
+    requires { ⌜ Whole-sheet (now sheet) ⌝ }
+    ensures { λ r. ⌜ r ≡ may-take (now (sheet .entry)) (contents (now (sheet .entry))) (office lot) ⌝ }
+{
+    let left = spare(sheet);
+    if sum_of(sheet, SHARES_START) < left {
+        return true;
+    }
+    let held = held_by_office(sheet);
+    let o = office_of(lot);
+    if held[o] < sheet[SHARES_START + o] {
+        return true;
+    }
+    all_lacking(sheet, &held) < left
+}
