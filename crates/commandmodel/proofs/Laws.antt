@@ -16,6 +16,7 @@ use Rattle.sheetmodel.specs.declared.reply.Looked.the-variants as looked
 use Rattle.sheetmodel.specs.declared.reply.Tallied.{Tallied}
 use Rattle.sheetmodel.specs.declared.reply.Tallied.the-variants as tallied
 use Rattle.sheetmodel.specs.Calls.{Outcome, fresh, open-lot, inspect, strike, close, look, tally}
+use Rattle.sheetmodel.specs.Offices.{no-shares}
 use Rattle.commandmodel.specs.Decimal.{digit-byte, digits, most-digits, printed}
 use Rattle.commandmodel.specs.Command as command
 use Rattle.commandmodel.specs.Command.{space}
@@ -68,7 +69,7 @@ tally-length (tallied.Refused n) = refusal-length n
 
 performed-length : (c : command.Command) (w : List ℕ) → length (performed c w .reply) ≤ longest-reply
 unfolding performed
-performed-length (command.fresh plan) w = done-length (fresh plan w .reply)
+performed-length (command.fresh plan) w = done-length (fresh plan no-shares w .reply)
 performed-length (command.opening lot) w = done-length (open-lot lot w .reply)
 performed-length (command.inspecting lot class) w = done-length (inspect lot class w .reply)
 performed-length (command.striking lot) w = done-length (strike lot w .reply)

@@ -11,6 +11,7 @@ use Rattle.sheetmodel.specs.declared.reply.Looked.the-variants as looked
 use Rattle.sheetmodel.specs.declared.reply.Tallied.{Tallied}
 use Rattle.sheetmodel.specs.declared.reply.Tallied.the-variants as tallied
 use Rattle.sheetmodel.specs.Calls.{Outcome, fresh, open-lot, inspect, strike, close, look, tally}
+use Rattle.sheetmodel.specs.Offices.{no-shares}
 use Rattle.commandmodel.specs.Decimal.{printed}
 use Rattle.commandmodel.specs.Command as command
 
@@ -73,7 +74,7 @@ in-bytes bytes o = record { reply = bytes (o .reply); words = o .words }
 
 -- each command makes its call
 unfoldable pub performed : command.Command → List ℕ → Outcome (List ℕ)
-performed (command.fresh plan) w = in-bytes done-printed (fresh plan w)
+performed (command.fresh plan) w = in-bytes done-printed (fresh plan no-shares w)
 performed (command.opening lot) w = in-bytes done-printed (open-lot lot w)
 performed (command.inspecting lot class) w = in-bytes done-printed (inspect lot class w)
 performed (command.striking lot) w = in-bytes done-printed (strike lot w)

@@ -47,7 +47,7 @@ of-reply (refused n) not = (λ e. not (ap refused e), λ g. absurd g)
 
 pub zero-law : Zero-law
 zero-law = record {
-  fresh = λ p w. of-done _ (demand-1 w .fresh p .by-rows .never-zero);
+  fresh = λ p shares w. of-done _ (demand-1 w .fresh p shares .by-rows .never-zero);
   opening = λ n w. of-done _ (demand-1 w .opening n .by-rows .never-zero);
   inspecting = λ n c w. of-done _ (demand-1 w .inspecting n c .by-rows .never-zero);
   striking = λ n w. of-done _ (demand-1 w .striking n .by-rows .never-zero);

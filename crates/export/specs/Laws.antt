@@ -25,7 +25,7 @@ Zero-exactly r = (number r ≡ 0) ↔ Granted r
 
 -- of every call, on any words
 pub record Zero-law : Type 0 where
-  pub fresh : (p w : List ℕ) → Zero-exactly (done-reply (fresh p w .reply))
+  pub fresh : (p shares w : List ℕ) → Zero-exactly (done-reply (fresh p shares w .reply))
   pub opening : (n : ℕ) (w : List ℕ) → Zero-exactly (done-reply (open-lot n w .reply))
   pub inspecting : (n c : ℕ) (w : List ℕ) → Zero-exactly (done-reply (inspect n c w .reply))
   pub striking : (n : ℕ) (w : List ℕ) → Zero-exactly (done-reply (strike n w .reply))

@@ -19,11 +19,11 @@ fn number_of(done: Done) -> u32
 }
 
 #[no_mangle]
-pub extern "C" fn haq_fresh(sheet: &mut [u32], plan: &[u32]) -> u32
-    ensures { λ r. ⌜ r ≡ number (done-reply (fresh (now (plan .entry)) (now (sheet .entry)) .reply)) ⌝ }
-    ensures { λ _. ⌜ now (sheet .exit) ≡ fresh (now (plan .entry)) (now (sheet .entry)) .words ⌝ }
+pub extern "C" fn haq_fresh(sheet: &mut [u32], plan: &[u32], shares: &[u32; 16]) -> u32
+    ensures { λ r. ⌜ r ≡ number (done-reply (fresh (now (plan .entry)) (now (shares .entry)) (now (sheet .entry)) .reply)) ⌝ }
+    ensures { λ _. ⌜ now (sheet .exit) ≡ fresh (now (plan .entry)) (now (shares .entry)) (now (sheet .entry)) .words ⌝ }
 {
-    number_of(sheet::fresh(sheet, plan))
+    number_of(sheet::fresh(sheet, plan, shares))
 }
 
 #[no_mangle]

@@ -15,8 +15,9 @@ fn judged(plan: &[u32], list: &[u8]) {
 
 // The estimate of lot 7 with classes 1, 2, 2.
 fn estimate(plan: &[u32]) {
-    let mut words = [0u32; 64];
-    sheet::fresh(&mut words, plan);
+    let mut words = [0u32; 76];
+    let shares = [0u32; 16];
+    sheet::fresh(&mut words, plan, &shares);
     sheet::open(&mut words, 7);
     sheet::inspect(&mut words, 7, 1);
     sheet::inspect(&mut words, 7, 2);

@@ -67,11 +67,34 @@ fn on_none(kind: u8, words: &[u32]) {
     print::bad_line();
 }
 
+// Fresh, with these shares.
+fn fresh(words: &mut [u32], plan: &[u32], shares: &[u32; 16]) {
+    print::done(sheet::fresh(words, plan, shares));
+    print::digest(words);
+}
+
+// The first sixteen numbers of a line, 0 for each that it lacks.
+fn first_sixteen(list: &[u32]) -> [u32; 16] {
+    let mut shares = [0u32; 16];
+    let mut o = 0;
+    while o < 16 {
+        if list.len() <= o {
+            return shares;
+        }
+        shares[o] = list[o];
+        o += 1;
+    }
+    shares
+}
+
 // A command of this kind, with the numbers of its line.
 pub fn answer(kind: u8, list: &[u32], words: &mut [u32]) {
     if kind == b'f' {
-        print::done(sheet::fresh(words, list));
-        print::digest(words);
+        fresh(words, list, &[0u32; 16]);
+        return;
+    }
+    if kind == b'g' && list.len() >= 16 {
+        fresh(words, &list[16..], &first_sixteen(list));
         return;
     }
     match list.len() {

@@ -10,6 +10,7 @@ use borrow.Author.Needs.{needs}
 use Rattle.sheetmodel.specs.declared.reply.Done.{Done}
 use Rattle.sheetmodel.specs.declared.reply.Looked.{Looked}
 use Rattle.sheetmodel.specs.declared.reply.Tallied.{Tallied}
+use Rattle.sheetmodel.specs.Offices.{no-shares}
 use Rattle.sheetmodel.specs.Calls as calls
 use Rattle.command.specs.declared.reading.Command.{Command}
 use Rattle.commandmodel.specs.Command as command
@@ -27,8 +28,8 @@ array-share-prefix-list c =
     let few : c .before .before .before .n .given .0 .0 ≤ most-numbers = rw (ap plan-numbers (c .before .before .before .n .given .1)) at (r .ensures .1) in
     omega (arith, r .kept .1 .0)
 
-slice-aggregate-fresh : tie.Need-slice-aggregate-fresh
-slice-aggregate-fresh c = sym (length-take-le _ _ (array-share-prefix-list (c .before)))
+slice-aggregate-fresh-without-shares : tie.Need-slice-aggregate-fresh-without-shares
+slice-aggregate-fresh-without-shares c = sym (length-take-le _ _ (array-share-prefix-list (c .before)))
 
 -- ---- the command x was read: its call's outcome is the answer
 
@@ -57,9 +58,9 @@ unfolding performed
 returns c =
     let r = c .before .before .before .before .before .before .before .before .before .before .before .before .before in
     let x = c .before .before .before .before .before .before .before .before .before .before .n .given in
-    let made = c .before .before .before .before .before .fresh in
+    let made = c .before .before .before .before .before .fresh-without-shares in
     let put = c .before .before .put-done in
-    call r _ (x .1) Done done-printed (calls.fresh (take (x .0 .0) (list r)) (words r)) refl (made .result) (made .ensures .0) (put .result) (put .ensures .0) (put .last .0) (put .ensures .1) (put .kept .0) (made .last .0) (made .ensures .1)
+    call r _ (x .1) Done done-printed (calls.fresh (take (x .0 .0) (list r)) no-shares (words r)) refl (made .result) (made .ensures .0) (put .result) (put .ensures .0) (put .last .0) (put .ensures .1) (put .kept .0) (made .last .0) (made .ensures .1)
 
 returns-2 : tie.Need-returns-2
 unfolding performed
@@ -129,7 +130,7 @@ answer-spec =
     (λ c κs. search needs)
     (λ c. search needs)
     array-share-prefix-list
-    slice-aggregate-fresh
+    slice-aggregate-fresh-without-shares
     (λ c κs. search needs)
     (λ c κs. search needs)
     (λ c. search needs)
