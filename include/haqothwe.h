@@ -7,10 +7,10 @@
  * writes nothing.
  *
  * A pointer is followed by the number of its elements, which may be any number;
- * an array of an out parameter has the length in brackets. A pointer is aligned
- * and not null, also where the number is 0, and what a call writes to overlaps
- * nothing else that it takes. Nothing else is required of the caller: any words
- * on a sheet, in a plan or in a list get an answer.
+ * an array has the length in brackets. A pointer is aligned and not null, also
+ * where the number is 0, and what a call writes to overlaps nothing else that it
+ * takes. Nothing else is required of the caller: any words on a sheet, in a plan,
+ * in a list or as shares get an answer.
  */
 #ifndef HAQOTHWE_H
 #define HAQOTHWE_H
@@ -22,13 +22,14 @@
 extern "C" {
 #endif
 
-/* The refusals in their order of precedence, in which 17 stands before 14;
-   haq_refusal_text gives their sentences. In quotes the word of documents 01 and
-   02 where it is another than the name. */
+/* The refusals in their order of precedence, in which 18 stands after 2, 19 after
+   11 and 17 after 13; haq_refusal_text gives their sentences. In quotes the word of
+   documents 01 and 02 where it is another than the name. */
 enum haq_refusal {
     HAQ_GRANTED = 0,
-    HAQ_SHEET_SIZE = 1,      /* the sheet has fewer than 48 words or more than 65,536 */
+    HAQ_SHEET_SIZE = 1,      /* the sheet has fewer than 64 words or more than 65,536 */
     HAQ_PLAN = 2,            /* the plan is not admitted */
+    HAQ_SHARES = 18,         /* the shares add to more than the records after the header */
     HAQ_CORRUPT = 3,         /* the sheet is corrupt ("torn") */
     HAQ_LOT_ZERO = 4,        /* 0 is not a lot number ("blank lot") */
     HAQ_OPEN_ALREADY = 5,    /* the lot is open already */
@@ -38,6 +39,7 @@ enum haq_refusal {
     HAQ_NONE_TO_STRIKE = 9,  /* the lot has no inspection to strike */
     HAQ_UNDECIDED = 10,      /* the lot is undecided */
     HAQ_FULL = 11,           /* no record is free or unused */
+    HAQ_HELD_BACK = 19,      /* the records left are held back for other offices */
     HAQ_TALLY_FULL = 12,     /* 4,000,000 lots are closed and the totals have no room for more */
     HAQ_WEIGHTS = 13,        /* the weights add to 0 or to more than 1,000,000 ("proportions") */
     HAQ_LOT_SIZE = 17,       /* the lot has fewer units than the sample or more than 1,000,000
@@ -51,8 +53,9 @@ enum haq_refusal {
 static inline const char *haq_refusal_text(uint32_t number) {
     switch (number) {
     case HAQ_GRANTED: return "granted";
-    case HAQ_SHEET_SIZE: return "the sheet has fewer than 48 words or more than 65,536";
+    case HAQ_SHEET_SIZE: return "the sheet has fewer than 64 words or more than 65,536";
     case HAQ_PLAN: return "the plan is not admitted";
+    case HAQ_SHARES: return "the shares add to more than the records after the header";
     case HAQ_CORRUPT: return "the sheet is corrupt";
     case HAQ_LOT_ZERO: return "0 is not a lot number";
     case HAQ_OPEN_ALREADY: return "the lot is open already";
@@ -62,6 +65,7 @@ static inline const char *haq_refusal_text(uint32_t number) {
     case HAQ_NONE_TO_STRIKE: return "the lot has no inspection to strike";
     case HAQ_UNDECIDED: return "the lot is undecided";
     case HAQ_FULL: return "no record is free or unused";
+    case HAQ_HELD_BACK: return "the records left are held back for other offices";
     case HAQ_TALLY_FULL: return "4,000,000 lots are closed and the totals have no room for more";
     case HAQ_WEIGHTS: return "the weights add to 0 or to more than 1,000,000";
     case HAQ_LOT_SIZE: return "the lot has fewer units than the sample or more than 1,000,000";
@@ -76,8 +80,17 @@ static inline const char *haq_refusal_text(uint32_t number) {
 enum haq_state { HAQ_STATE_UNDECIDED = 0, HAQ_STATE_ACCEPTED = 1, HAQ_STATE_REJECTED = 2 };
 
 /* Words of a sheet: at least, and at most. */
-#define HAQ_SHEET_LEAST 48
+#define HAQ_SHEET_LEAST 64
 #define HAQ_SHEET_MOST 65536
+
+/* Offices that share a sheet. A lot's office is its number % 16, and holds the lot's
+   records: one for the lot, one for each inspection. A record has four words, and the
+   first 15 records are the header. An office may have a share, a number of records: a
+   record is granted if the lot's office holds fewer than its share, or if the records
+   free and unused exceed what the other offices lack to reach their shares, added up.
+   So an office that haq_fresh gave a share can always get that many. Sixteen zeros are
+   no shares: a record is granted as long as one is free or unused. */
+#define HAQ_OFFICES 16
 
 /* Words of scratch that are enough for every admitted plan. A plan needs twice
    the product of its last r1 and its last r2, which are at most 60. */
@@ -92,13 +105,15 @@ enum haq_state { HAQ_STATE_UNDECIDED = 0, HAQ_STATE_ACCEPTED = 1, HAQ_STATE_REJE
    is none of these, and they stand ahead of the stages with acceptance numbers. */
 #define HAQ_NOT_PERMITTED 4294967295u
 
-/* Makes an empty sheet for a plan: writes words 0 to 43. Refusals 1, 2. */
-uint32_t haq_fresh(uint32_t *sheet, size_t n, const uint32_t *plan, size_t plan_n);
+/* Makes an empty sheet for a plan and the shares of offices 0 to 15: writes words 0
+   to 59. Refusals 1, 2, 18. */
+uint32_t haq_fresh(uint32_t *sheet, size_t n, const uint32_t *plan, size_t plan_n,
+                   const uint32_t shares[16]);
 
-/* Adds a lot, numbered from 1. Refusals 1, 3, 4, 5, 11. */
+/* Adds a lot, numbered from 1. Refusals 1, 3, 4, 5, 11, 19. */
 uint32_t haq_open(uint32_t *sheet, size_t n, uint32_t lot);
 
-/* Adds an inspected unit of a class to a lot. Refusals 1, 3, 6, 7, 8, 11. */
+/* Adds an inspected unit of a class to a lot. Refusals 1, 3, 6, 7, 8, 11, 19. */
 uint32_t haq_inspect(uint32_t *sheet, size_t n, uint32_t lot, uint32_t class_);
 
 /* Takes a lot's newest inspection away. Refusals 1, 3, 6, 9. */
