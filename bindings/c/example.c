@@ -1,10 +1,12 @@
-/* One lot from opening to closing, then a list and chances. Its output is bindings/expected. */
+/* One lot from opening to closing, offices with shares, then a list and chances. Its output is
+   bindings/expected. */
 #include <haqothwe.h>
 #include <inttypes.h>
 #include <stdio.h>
 
 static const char *const STATES[] = {"undecided", "accepted", "rejected"};
 static const uint32_t PLAN[] = {5, 2, 3, 1, 2};
+static const uint32_t NO_SHARES[HAQ_OFFICES] = {0};
 
 static void done(const char *call, uint32_t refusal) {
     if (refusal == HAQ_GRANTED)
@@ -28,8 +30,8 @@ static void show_lot(uint32_t *sheet, size_t n) {
 
 static void keep_sheet(uint32_t *sheet, size_t n) {
     uint32_t tally[5];
-    done("fresh without a plan", haq_fresh(sheet, n, PLAN, 0));
-    done("fresh", haq_fresh(sheet, n, PLAN, 5));
+    done("fresh without a plan", haq_fresh(sheet, n, PLAN, 0, NO_SHARES));
+    done("fresh", haq_fresh(sheet, n, PLAN, 5, NO_SHARES));
     done("open 7", haq_open(sheet, n, 7));
     done("inspect 7 3", haq_inspect(sheet, n, 7, 3));
     done("inspect 7 0", haq_inspect(sheet, n, 7, 0));
@@ -42,6 +44,21 @@ static void keep_sheet(uint32_t *sheet, size_t n) {
         printf("tally: %" PRIu32 " accepted, %" PRIu32 " rejected; %" PRIu32 " good, %" PRIu32
                " marginal, %" PRIu32 " bad\n",
                tally[0], tally[1], tally[2], tally[3], tally[4]);
+}
+
+/* Five records, for lots 7 and 23 of office 7 and lot 8 of office 8. */
+static void share_sheet(uint32_t *sheet, size_t n) {
+    uint32_t shares[HAQ_OFFICES] = {0};
+    shares[7] = shares[8] = 3;
+    done("fresh, shares 3 and 3", haq_fresh(sheet, n, PLAN, 5, shares));
+    shares[7] = shares[8] = 2;
+    done("fresh, shares 2 and 2", haq_fresh(sheet, n, PLAN, 5, shares));
+    done("open 7", haq_open(sheet, n, 7));
+    done("inspect 7 0", haq_inspect(sheet, n, 7, 0));
+    done("inspect 7 0", haq_inspect(sheet, n, 7, 0));
+    done("open 23", haq_open(sheet, n, 23));
+    done("open 8", haq_open(sheet, n, 8));
+    done("inspect 8 0", haq_inspect(sheet, n, 8, 0));
 }
 
 static void judge(const uint8_t *list, size_t n) {
@@ -78,8 +95,9 @@ static void chances(void) {
 
 int main(void) {
     static const uint8_t list[] = {0, 0, 0, 1, 2, 4};
-    uint32_t sheet[64] = {0};
-    keep_sheet(sheet, 64);
+    uint32_t sheet[80] = {0};
+    keep_sheet(sheet, 80);
+    share_sheet(sheet, 80);
     judge(list, 5);
     judge(list, 0);
     judge(list, 6);

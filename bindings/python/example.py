@@ -1,6 +1,7 @@
-"""One lot from opening to closing, then a list and chances. Its output is bindings/expected."""
+"""One lot from opening to closing, offices with shares, then a list and chances. Its output is
+bindings/expected."""
 
-from haqothwe import (Refused, Sheet, chance, chart, judge, lot_chance, units,
+from haqothwe import (OFFICES, Refused, Sheet, chance, chart, judge, lot_chance, units,
                       units_chart)
 
 PLAN = [5, 2, 3, 1, 2]
@@ -40,6 +41,21 @@ def keep_sheet(sheet):
           f"{it.good} good, {it.marginal} marginal, {it.bad} bad")
 
 
+def share_sheet(sheet):
+    """Five records, for lots 7 and 23 of office 7 and lot 8 of office 8."""
+    shares = [0] * OFFICES
+    shares[7] = shares[8] = 3
+    done("fresh, shares 3 and 3", sheet.fresh, PLAN, shares)
+    shares[7] = shares[8] = 2
+    done("fresh, shares 2 and 2", sheet.fresh, PLAN, shares)
+    done("open 7", sheet.open, 7)
+    done("inspect 7 0", sheet.inspect, 7, 0)
+    done("inspect 7 0", sheet.inspect, 7, 0)
+    done("open 23", sheet.open, 23)
+    done("open 8", sheet.open, 8)
+    done("inspect 8 0", sheet.inspect, 8, 0)
+
+
 def judged(classes):
     try:
         it = judge(PLAN, classes)
@@ -52,7 +68,9 @@ def judged(classes):
 
 
 def main():
-    keep_sheet(Sheet(64))
+    sheet = Sheet(80)
+    keep_sheet(sheet)
+    share_sheet(sheet)
     judged([0, 0, 0, 1, 2])
     judged([])
     judged([0, 0, 0, 1, 2, 4])

@@ -16,6 +16,9 @@ UNDECIDED, ACCEPTED, REJECTED = 0, 1, 2
 # Words of scratch that are enough for every admitted plan.
 SCRATCH_MOST = 7200
 
+# Offices that share a sheet; that of a lot is its number % 16.
+OFFICES = 16
+
 _DEFAULT = Path(__file__).resolve().parents[2] / "target" / "libhaqothwe.so"
 _library = ctypes.CDLL(os.environ.get("HAQOTHWE_LIBRARY", str(_DEFAULT)))
 
@@ -38,8 +41,9 @@ class Refused(Exception):
 
 # Number, subclass and sentence of each refusal (docs/SPECIFICATION.md, "Refused").
 _TABLE = [
-    (1, "SheetSize", "the sheet has fewer than 48 words or more than 65,536"),
+    (1, "SheetSize", "the sheet has fewer than 64 words or more than 65,536"),
     (2, "Plan", "the plan is not admitted"),
+    (18, "Shares", "the shares add to more than the records after the header"),
     (3, "Corrupt", "the sheet is corrupt"),
     (4, "LotZero", "0 is not a lot number"),
     (5, "OpenAlready", "the lot is open already"),
@@ -49,6 +53,7 @@ _TABLE = [
     (9, "NoneToStrike", "the lot has no inspection to strike"),
     (10, "Undecided", "the lot is undecided"),
     (11, "Full", "no record is free or unused"),
+    (19, "HeldBack", "the records left are held back for other offices"),
     (12, "TallyFull", "4,000,000 lots are closed and the totals have no room for more"),
     (13, "Weights", "the weights add to 0 or to more than 1,000,000"),
     (17, "LotSize", "the lot has fewer units than the sample or more than 1,000,000"),
@@ -87,7 +92,7 @@ def _function(name, *types):
 _sheet = (ctypes.POINTER(_u32), _size)
 _list = (ctypes.POINTER(_u8), _size)
 _bounds = _sheet + (_u32, _u32, _u32, ctypes.POINTER(_u64), _size)
-_fresh = _function("haq_fresh", *_sheet, *_sheet)
+_fresh = _function("haq_fresh", *_sheet, *_sheet, ctypes.POINTER(_u32))
 _open = _function("haq_open", *_sheet, _u32)
 _inspect = _function("haq_inspect", *_sheet, _u32, _u32)
 _strike = _function("haq_strike", *_sheet, _u32)
@@ -128,8 +133,11 @@ class Sheet:
     def _call(self, function, *rest):
         _granted(function(self.words, len(self.words), *rest))
 
-    def fresh(self, plan):
-        self._call(_fresh, _words(plan), len(plan))
+    def fresh(self, plan, shares=(0,) * OFFICES):
+        """shares: records for each office, 0 where it has no share."""
+        if len(shares) != OFFICES:
+            raise ValueError(f"not {OFFICES} shares: {len(shares)}")
+        self._call(_fresh, _words(plan), len(plan), _words(shares))
 
     def open(self, lot):
         self._call(_open, _word(lot))

@@ -1,12 +1,13 @@
-//! One lot from opening to closing, then a list and chances. Its output is
-//! bindings/expected.
+//! One lot from opening to closing, offices with shares, then a list and chances. Its
+//! output is bindings/expected.
 
 mod haqothwe;
 
 use haqothwe::{chance, chart, judge, lot_chance, units, units_chart};
-use haqothwe::{Reply, Sheet, Stop, ACCEPTED, REJECTED, SCRATCH_MOST, UNDECIDED};
+use haqothwe::{Reply, Sheet, Stop, ACCEPTED, OFFICES, REJECTED, SCRATCH_MOST, UNDECIDED};
 
 const PLAN: &[u32] = &[5, 2, 3, 1, 2];
+const NO_SHARES: &[u32; OFFICES] = &[0; OFFICES];
 
 fn word(state: u32) -> &'static str {
     match state {
@@ -37,8 +38,8 @@ fn show_lot(sheet: &mut Sheet) -> Reply<()> {
 }
 
 fn keep_sheet(sheet: &mut Sheet) -> Reply<()> {
-    done("fresh without a plan", sheet.fresh(&[]));
-    done("fresh", sheet.fresh(PLAN));
+    done("fresh without a plan", sheet.fresh(&[], NO_SHARES));
+    done("fresh", sheet.fresh(PLAN, NO_SHARES));
     done("open 7", sheet.open(7));
     done("inspect 7 3", sheet.inspect(7, 3));
     done("inspect 7 0", sheet.inspect(7, 0));
@@ -54,6 +55,21 @@ fn keep_sheet(sheet: &mut Sheet) -> Reply<()> {
     );
     println!("{} good, {} marginal, {} bad", it.good, it.marginal, it.bad);
     Ok(())
+}
+
+/// Five records, for lots 7 and 23 of office 7 and lot 8 of office 8.
+fn share_sheet(sheet: &mut Sheet) {
+    let mut shares = [0; OFFICES];
+    shares[7..9].fill(3);
+    done("fresh, shares 3 and 3", sheet.fresh(PLAN, &shares));
+    shares[7..9].fill(2);
+    done("fresh, shares 2 and 2", sheet.fresh(PLAN, &shares));
+    done("open 7", sheet.open(7));
+    done("inspect 7 0", sheet.inspect(7, 0));
+    done("inspect 7 0", sheet.inspect(7, 0));
+    done("open 23", sheet.open(23));
+    done("open 8", sheet.open(8));
+    done("inspect 8 0", sheet.inspect(8, 0));
 }
 
 fn judged(list: &[u8]) {
@@ -86,7 +102,9 @@ fn chances() -> Reply<()> {
 }
 
 fn main() {
-    keep_sheet(&mut Sheet(&mut [0; 64])).expect("the calls are granted");
+    let sheet = &mut Sheet(&mut [0; 80]);
+    keep_sheet(sheet).expect("the calls are granted");
+    share_sheet(sheet);
     let list = [0, 0, 0, 1, 2, 4];
     judged(&list[..5]);
     judged(&[]);

@@ -51,8 +51,9 @@ macro_rules! refusals {
 
 // docs/SPECIFICATION.md, "Refused".
 refusals! {
-    1 SheetSize "the sheet has fewer than 48 words or more than 65,536"
+    1 SheetSize "the sheet has fewer than 64 words or more than 65,536"
     2 Plan "the plan is not admitted"
+    18 Shares "the shares add to more than the records after the header"
     3 Corrupt "the sheet is corrupt"
     4 LotZero "0 is not a lot number"
     5 OpenAlready "the lot is open already"
@@ -62,6 +63,7 @@ refusals! {
     9 NoneToStrike "the lot has no inspection to strike"
     10 Undecided "the lot is undecided"
     11 Full "no record is free or unused"
+    19 HeldBack "the records left are held back for other offices"
     12 TallyFull "4,000,000 lots are closed and the totals have no room for more"
     13 Weights "the weights add to 0 or to more than 1,000,000"
     17 LotSize "the lot has fewer units than the sample or more than 1,000,000"
@@ -82,6 +84,9 @@ pub type Reply<T> = Result<T, Refusal>;
 
 /// Words of scratch that are enough for every admitted plan.
 pub const SCRATCH_MOST: usize = 7_200;
+
+/// Offices that share a sheet; that of a lot is its number % 16.
+pub const OFFICES: usize = 16;
 
 pub const UNDECIDED: u32 = 0;
 pub const ACCEPTED: u32 = 1;
@@ -142,7 +147,9 @@ pub struct Judgement {
 
 #[rustfmt::skip]
 extern "C" {
-    fn haq_fresh(sheet: *mut u32, n: usize, plan: *const u32, plan_n: usize) -> u32;
+    fn haq_fresh(
+        sheet: *mut u32, n: usize, plan: *const u32, plan_n: usize, shares: &[u32; OFFICES],
+    ) -> u32;
     fn haq_open(sheet: *mut u32, n: usize, lot: u32) -> u32;
     fn haq_inspect(sheet: *mut u32, n: usize, lot: u32, class: u32) -> u32;
     fn haq_strike(sheet: *mut u32, n: usize, lot: u32) -> u32;
@@ -188,9 +195,10 @@ fn reply<T: Default>(call: impl FnOnce(&mut T) -> u32) -> Reply<T> {
 pub struct Sheet<'a>(pub &'a mut [u32]);
 
 impl Sheet<'_> {
-    pub fn fresh(&mut self, plan: &[u32]) -> Reply<()> {
+    /// The shares are records for each office, 0 where it has no share.
+    pub fn fresh(&mut self, plan: &[u32], shares: &[u32; OFFICES]) -> Reply<()> {
         let (words, n) = (self.0.as_mut_ptr(), self.0.len());
-        reply(|_| unsafe { haq_fresh(words, n, plan.as_ptr(), plan.len()) })
+        reply(|_| unsafe { haq_fresh(words, n, plan.as_ptr(), plan.len(), shares) })
     }
 
     pub fn open(&mut self, lot: u32) -> Reply<()> {
