@@ -12,7 +12,7 @@ MANUAL = (ROOT / "docs" / "lots.1").read_text(encoding="ascii")
 COMMANDS = ["p N A1 R1 A2 R2 ..", "o LOT", "i LOT CLASS", "s LOT", "l LOT", "c LOT", "t"]
 
 # Refusals of calls that the program does not make, or not so that they are given.
-OF_THE_LIBRARY_ALONE = {1, 13, 17, 14, 15}
+OF_THE_LIBRARY_ALONE = {1, 18, 19, 13, 17, 14, 15}
 
 
 def literal_blocks():
@@ -53,9 +53,9 @@ class Manual(unittest.TestCase):
     def test_limits(self):
         before = run(PROGRAM, input="t\no 7\np 5 2 3 1\np 5 2 3 1 3\n")
         self.assertEqual(before.stdout, "no 3\nno 3\nno 16\nno 2\n")
-        opens = "".join(f"o {lot}\n" for lot in range(1, 4087))
+        opens = "".join(f"o {lot}\n" for lot in range(1, 4083))
         full = run(PROGRAM, input="p 5 2 3 1 2\n" + opens)
-        self.assertEqual(full.stdout, "ok\n" * 4086 + "no 11\n")
+        self.assertEqual(full.stdout, "ok\n" * 4082 + "no 11\n")
         long = run(PROGRAM, input=f"t{' ' * 300}\no 1")
         self.assertEqual((long.returncode, long.stdout), (0, "no 16\nno 3\n"))
 

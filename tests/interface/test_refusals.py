@@ -28,9 +28,9 @@ def asked(program, numbers):
 
 class Words(unittest.TestCase):
     def test_table(self):
-        """Each number once, in ascending order but for 17, which stands between 13 and 14."""
+        """Each number once, in ascending order but for 18, 19 and 17, which follow 2, 11 and 13."""
         numbers = [row.number for row in TABLE]
-        self.assertEqual(numbers, [*range(1, 14), 17, *range(14, 17)])
+        self.assertEqual(numbers, [1, 2, 18, *range(3, 12), 19, 12, 13, 17, 14, 15, 16])
 
     def test_readme(self):
         self.assertEqual(refusals("README.md", "Refusals"), TABLE)
@@ -89,7 +89,12 @@ class Words(unittest.TestCase):
             self.assertEqual(str(haqothwe.Refused(number)), f"refused {number}: unknown refusal")
 
 
-def sheet_with(lot, *classes, plan=ONE_STAGE, words=64):
+def shares_with(*shares):
+    """Shares for offices 0, 1, .., and 0 for the others."""
+    return [*shares, *[0] * (haqothwe.OFFICES - len(shares))]
+
+
+def sheet_with(lot, *classes, plan=ONE_STAGE, words=80):
     sheet = haqothwe.Sheet(words)
     sheet.fresh(plan)
     sheet.open(lot)
@@ -109,7 +114,7 @@ class Raised(unittest.TestCase):
 
     def test_sheet(self):
         sheet = sheet_with(7)
-        self.refused(haqothwe.SheetSize, haqothwe.Sheet(47).fresh, ONE_STAGE)
+        self.refused(haqothwe.SheetSize, haqothwe.Sheet(63).fresh, ONE_STAGE)
         self.refused(haqothwe.Plan, sheet.fresh, [])
         self.refused(haqothwe.Corrupt, haqothwe.Sheet(64).open, 7)
         self.refused(haqothwe.LotZero, sheet.open, 0)
@@ -117,7 +122,44 @@ class Raised(unittest.TestCase):
         self.refused(haqothwe.NotOpen, sheet.look, 8)
         self.refused(haqothwe.NoneToStrike, sheet.strike, 7)
         self.refused(haqothwe.Undecided, sheet.close, 7)
-        self.refused(haqothwe.Full, sheet_with(7, words=48).open, 8)
+        self.refused(haqothwe.Full, sheet_with(7, words=64).open, 8)
+
+    def test_shares(self):
+        """Each row before those that follow it: 1, 2, 18. The sum does not wrap."""
+        sheet = haqothwe.Sheet(80)
+        most = 2**32 - 1
+        for shares in (shares_with(6), shares_with(1, 5), shares_with(2**31, 2**31), [most] * 16):
+            self.refused(haqothwe.SheetSize, haqothwe.Sheet(63).fresh, [], shares)
+            self.refused(haqothwe.Plan, sheet.fresh, [], shares)
+            self.refused(haqothwe.Shares, sheet.fresh, ONE_STAGE, shares)
+        sheet.fresh(ONE_STAGE, shares_with(1, 4))
+        self.assertEqual(sheet.words[44:60], shares_with(1, 4))
+        sheet.words[59] = 1
+        self.refused(haqothwe.Corrupt, sheet.open, 1)
+
+    def test_number_of_shares(self):
+        """Sixteen, else no call is made; without them they are 0."""
+        for length in (0, 15, 17):
+            sheet = haqothwe.Sheet(80)
+            with self.assertRaises(ValueError):
+                sheet.fresh(ONE_STAGE, [0] * length)
+            self.assertFalse(any(sheet.words))
+        sheet.fresh(ONE_STAGE)
+        self.assertEqual(sheet.words[44:60], [0] * 16)
+
+    def test_held_back(self):
+        """An office at its share gets 19 while others lack all that is left, and then 11."""
+        sheet = haqothwe.Sheet(80)
+        sheet.fresh(ONE_STAGE, shares_with(2, 2))
+        sheet.open(16)
+        sheet.inspect(16, 0)
+        sheet.inspect(16, 0)
+        for lot in (17, 33):
+            self.refused(haqothwe.HeldBack, sheet.open, 32)
+            self.refused(haqothwe.HeldBack, sheet.inspect, 16, 0)
+            sheet.open(lot)
+        self.refused(haqothwe.Full, sheet.open, 32)
+        self.refused(haqothwe.Full, sheet.inspect, 16, 0)
 
     def test_class(self):
         """The greatest class is 3, and the whole list is asked, past every stop too."""
