@@ -53,7 +53,7 @@ fn output(program: &str, word: &str, script: &str) -> io::Result<Vec<u8>> {
     })
 }
 
-/// Commands on up to 500 lots, which fill most of the sheet's 4,085 records.
+/// Commands on up to 500 lots, which fill most of the sheet's 4,081 records.
 fn script() -> String {
     let random = &mut Random::new(20_000);
     let words: Vec<String> = ONE.iter().map(u32::to_string).collect();

@@ -57,7 +57,7 @@ fn numbers(it: Judgement) -> [u32; 9] {
 fn on_sheet(sheet: &mut Sheet, call: &SheetCall) -> Answer {
     let none = |()| [0_u32; 0];
     match *call {
-        SheetCall::Fresh(ref plan) => returned(sheet.fresh(plan).map(none)),
+        SheetCall::Fresh(ref plan, ref shares) => returned(sheet.fresh(plan, shares).map(none)),
         SheetCall::Open(lot) => returned(sheet.open(lot).map(none)),
         SheetCall::Inspect(lot, class) => returned(sheet.inspect(lot, class).map(none)),
         SheetCall::Strike(lot) => returned(sheet.strike(lot).map(none)),

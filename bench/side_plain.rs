@@ -47,7 +47,9 @@ impl Side for Plain {
 fn on_sheet(words: &mut [u32], call: &SheetCall) -> Answer {
     let none = |()| [0_u32; 0];
     match *call {
-        SheetCall::Fresh(ref plan) => answer(sheet::fresh(words, plan).map(none)),
+        SheetCall::Fresh(ref plan, ref shares) => {
+            answer(sheet::fresh(words, plan, shares).map(none))
+        }
         SheetCall::Open(lot) => answer(sheet::open(words, lot).map(none)),
         SheetCall::Inspect(lot, class) => answer(sheet::inspect(words, lot, class).map(none)),
         SheetCall::Strike(lot) => answer(sheet::strike(words, lot).map(none)),

@@ -7,7 +7,7 @@ use reference::generators::hand_written::{LARGEST, ONE, SEVEN};
 use reference::generators::random::Random;
 use reference::model::chance::{Weights, MOST_SCRATCH};
 use reference::model::earliest::Table;
-use reference::model::layout::MOST_WORDS;
+use reference::model::layout::{HEAD, MOST_WORDS, TOTALS_END};
 use reference::model::plan::Plan;
 use reference::model::sheet_call::SheetCall;
 use std::rc::Rc;
@@ -136,15 +136,30 @@ fn short_lots(random: &mut Random) -> Vec<Subject> {
     let (decided, undecided) = two_lots(&built.words, &built.lots);
     let absent = (undecided..).find(|lot| !built.lots.contains(lot));
     let absent = absent.expect("numbers have gaps");
+    let shared = Rc::new(with_shares(&built.words));
     let before = Rc::new(built.words);
+    let lots = (&before, "short lots");
+    let lots_and_shares = (&shared, "short lots, equal shares");
     let calls = [
-        SheetCall::Open(absent),
-        SheetCall::Inspect(undecided, 1),
-        SheetCall::Close(decided),
-        SheetCall::Look(decided),
-        SheetCall::Fresh(ONE.to_vec()),
+        (lots, SheetCall::Open(absent)),
+        (lots_and_shares, SheetCall::Open(absent)),
+        (lots, SheetCall::Inspect(undecided, 1)),
+        (lots_and_shares, SheetCall::Inspect(undecided, 1)),
+        (lots, SheetCall::Close(decided)),
+        (lots, SheetCall::Look(decided)),
+        (lots, SheetCall::Fresh(ONE.to_vec(), [0; 16])),
     ];
-    calls.map(|it| call(&before, "short lots", it)).into()
+    let subject = |((before, lots), it)| call(before, lots, it);
+    calls.map(subject).into()
+}
+
+/// The sheet under one share for all sixteen offices, which stand at the end of the head.
+/// Their sum is more than the records left, so that a call has to know what each office
+/// holds. Some offices lack records; all that they lack is less than what is left.
+fn with_shares(words: &[u32]) -> Vec<u32> {
+    let mut words = words.to_vec();
+    words[TOTALS_END..HEAD].fill(900);
+    words
 }
 
 /// A decided lot and an undecided one, from the middle on.

@@ -8,4 +8,5 @@ pub mod judge;
 pub mod lots;
 mod packed;
 mod plan;
+mod shares;
 pub mod sheet;

@@ -1,6 +1,7 @@
 //! The program lots: 01 "Program lots", by blocks of input as they come.
 
 use super::plan::{MOST_STAGES, STAGE_WORDS};
+use super::shares::OFFICES;
 use super::sheet;
 use std::io::{self, Read, Write};
 
@@ -88,7 +89,7 @@ fn call(words: &mut [u32], letter: u8, numbers: &[u32], replies: &mut Vec<u8>) -
             return Ok(());
         }
         (b'p', plan) if !plan.is_empty() && plan.len() % STAGE_WORDS == 0 => {
-            sheet::fresh(words, plan)?;
+            sheet::fresh(words, plan, &[0; OFFICES])?;
         }
         (b'o', &[lot]) => sheet::open(words, lot)?,
         (b'i', &[lot, class]) => sheet::inspect(words, lot, class)?,

@@ -2,9 +2,10 @@
 
 use super::packed::Packed;
 use super::plan::{Counts, Limits, Plan, ACCEPTED, MOST_STAGES, STAGE_WORDS, UNDECIDED};
+use super::shares::{self, office, ByOffice, OFFICES};
 use std::ops::Range;
 
-const LEAST_WORDS: usize = 48;
+const LEAST_WORDS: usize = 64;
 const MOST_WORDS: usize = 65_536;
 
 // Places in the head.
@@ -13,9 +14,10 @@ const FIRST_FREE: usize = 2;
 const K: usize = 3;
 const STAGES: usize = 4;
 const TOTALS: usize = 39;
-const HEAD: usize = 44;
+const SHARES: usize = 44;
+const HEAD: usize = 60;
 
-const FIRST_RECORD: u32 = 11;
+const FIRST_RECORD: u32 = 15;
 const FREE: u32 = u32::MAX;
 const MOST_CLOSED: u64 = 4_000_000;
 
@@ -36,6 +38,9 @@ struct Survey {
     lot: Option<Lot>,
     /// The word that holds the index of the first lot from the number on.
     link: usize,
+    /// The number of free records, and what each office holds.
+    free: u32,
+    held: ByOffice,
 }
 
 /// A plan with the limits of its stages.
@@ -64,6 +69,15 @@ impl Judge {
     }
 }
 
+/// The whole records of a sheet, those of the head too.
+fn records(words: &[u32]) -> u32 {
+    (words.len() / 4) as u32
+}
+
+fn shares_fit(words: &[u32], shares: &[u32]) -> bool {
+    shares::fit(shares, records(words) - FIRST_RECORD)
+}
+
 fn head(words: &[u32]) -> Option<Judge> {
     let k = words[K] as usize;
     if !(1..=MOST_STAGES).contains(&k) {
@@ -73,12 +87,12 @@ fn head(words: &[u32]) -> Option<Judge> {
     let plan = Plan::admitted(used)?;
     let sum = |words: &[u32]| words.iter().map(|&word| u64::from(word)).sum::<u64>();
     let lots = sum(&words[TOTALS..TOTALS + 2]);
-    let units = sum(&words[TOTALS + 2..HEAD]);
-    let records = (words.len() / 4) as u32;
+    let units = sum(&words[TOTALS + 2..SHARES]);
     let sound = unused.iter().all(|&word| word == 0)
-        && (FIRST_RECORD..=records).contains(&words[0])
+        && (FIRST_RECORD..=records(words)).contains(&words[0])
         && lots <= MOST_CLOSED
-        && units <= 1000 * lots;
+        && units <= 1000 * lots
+        && shares_fit(words, &words[SHARES..HEAD]);
     sound.then(|| Judge::new(plan))
 }
 
@@ -177,6 +191,8 @@ impl Sheet<'_> {
             stages: self.judge.plan.stages().len(),
             lot: None,
             link: FIRST_LOT,
+            free: 0,
+            held: [0; OFFICES],
         };
         let (mut at, mut before, mut seen) = (head[FIRST_LOT], 0, 0);
         while at != 0 {
@@ -187,6 +203,7 @@ impl Sheet<'_> {
             let packed = self.lot(at, newest)?;
             let counts = packed.counts();
             seen += 1 + counts.units;
+            survey.held[office(lot)] += 1 + counts.units;
             if lot < number {
                 survey.link = at as usize * 4 + 1;
             } else if lot == number {
@@ -199,8 +216,8 @@ impl Sheet<'_> {
             }
             (before, at) = (lot, next);
         }
-        seen += self.free(head[FIRST_FREE])?;
-        (seen == head[0] - FIRST_RECORD).then_some(survey)
+        survey.free = self.free(head[FIRST_FREE])?;
+        (seen + survey.free == head[0] - FIRST_RECORD).then_some(survey)
     }
 }
 
@@ -220,25 +237,33 @@ fn survey_lot(words: &[u32], number: u32) -> Result<(Survey, Lot), u32> {
     Ok((survey, lot))
 }
 
+/// Refuses a lot a record if none is left, or if its office may not have it.
+fn grant(words: &[u32], survey: &Survey, number: u32) -> Result<(), u32> {
+    let shares = words[SHARES..].first_chunk().ok_or(3_u32)?;
+    match survey.free + records(words) - words[0] {
+        0 => Err(11),
+        left if shares::granted(number, left, shares, &survey.held) => Ok(()),
+        _ => Err(19),
+    }
+}
+
 fn put(words: &mut [u32], record: u32, values: [u32; 4]) {
     let at = record as usize * 4;
     words[at..at + 4].copy_from_slice(&values);
 }
 
-/// Writes a new record, and gives its index.
-fn take(words: &mut [u32], values: [u32; 4]) -> Result<u32, u32> {
+/// Writes a new record, one being left, and gives its index.
+fn take(words: &mut [u32], values: [u32; 4]) -> u32 {
     let (unused, first) = (words[0], words[FIRST_FREE]);
     let record = if first != 0 {
         words[FIRST_FREE] = words[first as usize * 4 + 1];
         first
-    } else if (unused as usize) < words.len() / 4 {
+    } else {
         words[0] += 1;
         unused
-    } else {
-        return Err(11);
     };
     put(words, record, values);
-    Ok(record)
+    record
 }
 
 fn release(words: &mut [u32], record: u32) {
@@ -252,42 +277,47 @@ fn release(words: &mut [u32], record: u32) {
     words[FIRST_FREE] = record;
 }
 
-pub fn fresh(words: &mut [u32], plan: &[u32]) -> Result<(), u32> {
+pub fn fresh(words: &mut [u32], plan: &[u32], shares: &ByOffice) -> Result<(), u32> {
     if !(LEAST_WORDS..=MOST_WORDS).contains(&words.len()) {
         return Err(1);
     }
     Plan::admitted(plan).ok_or(2_u32)?;
-    words[..HEAD].fill(0);
+    if !shares_fit(words, shares) {
+        return Err(18);
+    }
+    words[..SHARES].fill(0);
     words[0] = FIRST_RECORD;
     words[K] = (plan.len() / STAGE_WORDS) as u32;
     words[STAGES..STAGES + plan.len()].copy_from_slice(plan);
+    words[SHARES..HEAD].copy_from_slice(shares);
     Ok(())
 }
 
 pub fn open(words: &mut [u32], number: u32) -> Result<(), u32> {
-    let Survey { lot, link, .. } = survey(words, number)?;
+    let survey = survey(words, number)?;
     if number == 0 {
         return Err(4);
     }
-    if lot.is_some() {
+    if survey.lot.is_some() {
         return Err(5);
     }
-    let next = words[link];
-    let record = take(words, [number, next, 0, 0])?;
-    words[link] = record;
+    grant(words, &survey, number)?;
+    let next = words[survey.link];
+    words[survey.link] = take(words, [number, next, 0, 0]);
     Ok(())
 }
 
 pub fn inspect(words: &mut [u32], number: u32, class: u32) -> Result<(), u32> {
-    let (_, lot) = survey_lot(words, number)?;
+    let (survey, lot) = survey_lot(words, number)?;
     if class > 3 {
         return Err(7);
     }
     if lot.state != UNDECIDED {
         return Err(8);
     }
+    grant(words, &survey, number)?;
     let serial = lot.packed.counts().units + 1;
-    let record = take(words, [class, lot.newest, lot.record, serial])?;
+    let record = take(words, [class, lot.newest, lot.record, serial]);
     words[lot.record as usize * 4 + 2] = record;
     Ok(())
 }
@@ -312,7 +342,7 @@ pub fn close(words: &mut [u32], number: u32) -> Result<(), u32> {
     }
     words[TOTALS + (lot.state - ACCEPTED) as usize] += 1;
     let classes = lot.packed.counts().classes();
-    let totals = words[TOTALS + 2..HEAD].iter_mut();
+    let totals = words[TOTALS + 2..SHARES].iter_mut();
     totals.zip(classes).for_each(|(total, more)| *total += more);
     words[survey.link] = words[lot.record as usize * 4 + 1];
     let mut at = lot.newest;
