@@ -4,10 +4,17 @@
 
 use reference::model::chance::Weights;
 use reference::model::lot_chance::Lot;
+use reference::model::offices::Shares;
 use reference::model::sheet_call::SheetCall;
 
 extern "C" {
-    fn haq_fresh(sheet: *mut u32, n: usize, plan: *const u32, plan_n: usize) -> u32;
+    fn haq_fresh(
+        sheet: *mut u32,
+        n: usize,
+        plan: *const u32,
+        plan_n: usize,
+        shares: *const u32,
+    ) -> u32;
     fn haq_open(sheet: *mut u32, n: usize, lot: u32) -> u32;
     fn haq_inspect(sheet: *mut u32, n: usize, lot: u32, class: u32) -> u32;
     fn haq_strike(sheet: *mut u32, n: usize, lot: u32) -> u32;
@@ -139,7 +146,7 @@ fn with_long_words(length: usize, call: impl FnOnce(*mut u64) -> u32) -> Answer 
 pub fn on_sheet(call: &SheetCall, sheet: &mut Lent<u32>) -> Answer {
     let (words, n) = (sheet.pointer(), sheet.len());
     match *call {
-        SheetCall::Fresh(ref plan) => fresh(words, n, plan),
+        SheetCall::Fresh(ref plan, ref shares) => fresh(words, n, plan, shares),
         SheetCall::Open(lot) => with_words(0, |_| unsafe { haq_open(words, n, lot) }),
         SheetCall::Inspect(lot, class) => {
             with_words(0, |_| unsafe { haq_inspect(words, n, lot, class) })
@@ -154,11 +161,15 @@ pub fn on_sheet(call: &SheetCall, sheet: &mut Lent<u32>) -> Answer {
     }
 }
 
-fn fresh(words: *mut u32, n: usize, plan: &[u32]) -> Answer {
+fn fresh(words: *mut u32, n: usize, plan: &[u32], shares: &Shares) -> Answer {
     let mut plan = Lent::new(plan, PATTERN);
-    let (stages, k) = (plan.pointer(), plan.len());
-    let answer = with_words(0, |_| unsafe { haq_fresh(words, n, stages, k) });
-    assert!(plan.kept(), "fresh wrote to the plan");
+    let mut shares = Lent::new(shares, PATTERN);
+    let (stages, k, lent) = (plan.pointer(), plan.len(), shares.pointer());
+    let answer = with_words(0, |_| unsafe { haq_fresh(words, n, stages, k, lent) });
+    assert!(
+        plan.kept() && shares.kept(),
+        "fresh wrote to its plan or shares"
+    );
     answer
 }
 

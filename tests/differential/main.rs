@@ -6,6 +6,7 @@
 mod compare;
 mod library;
 mod lot_chances;
+mod offices;
 mod plans;
 mod sheets;
 
@@ -15,7 +16,7 @@ use std::time::Instant;
 fn main() -> ExitCode {
     let start = Instant::now();
     let mut comparer = compare::Comparer::default();
-    let parts = [plans::all, lot_chances::all, sheets::all];
+    let parts = [plans::all, lot_chances::all, sheets::all, offices::all];
     let done = parts.into_iter().try_for_each(|part| part(&mut comparer));
     comparer.print();
     println!("{:.1} seconds", start.elapsed().as_secs_f64());

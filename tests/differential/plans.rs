@@ -15,7 +15,8 @@ use reference::lines::plan_lines::Case;
 use reference::model::chance::MOST_SCRATCH;
 use reference::model::class::BLANK;
 use reference::model::earliest::Table;
-use reference::model::layout::{LEAST_WORDS, MOST_WORDS};
+use reference::model::layout::{LEAST_WORDS, MOST_WORDS, OFFICES};
+use reference::model::offices::NO_SHARES;
 use reference::model::plan::{Plan, MARK, STAGE_WORDS};
 use reference::model::sheet_call::SheetCall;
 
@@ -71,7 +72,9 @@ fn plan(comparer: &mut Comparer, words: &[u32]) -> Compared {
     comparer.judge(words, &[0, 4])?;
     for length in [LEAST_WORDS - 1, LEAST_WORDS, LEAST_WORDS + 3] {
         comparer.new_sheet(vec![PATTERN; length]);
-        comparer.on_sheet(&SheetCall::Fresh(words.to_vec()))?;
+        // More than the one record that there is.
+        comparer.on_sheet(&SheetCall::Fresh(words.to_vec(), [1; OFFICES]))?;
+        comparer.on_sheet(&SheetCall::Fresh(words.to_vec(), NO_SHARES))?;
         comparer.on_sheet(&SheetCall::Tally)?;
     }
     if Plan::admitted(words).is_none() {

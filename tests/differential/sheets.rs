@@ -1,4 +1,5 @@
-//! Calls on sheets of all sizes: valid ones, damaged ones and any words.
+//! Calls on sheets of all sizes: valid ones, damaged ones and any words. offices.rs has
+//! those with shares.
 
 use crate::compare::{Compared, Comparer};
 use reference::generators::full_sheets::{self, Fill};
@@ -10,6 +11,7 @@ use reference::generators::{blanks, draw, sheet_cases};
 use reference::lines::sheet_lines::Command;
 use reference::model::class::{BLANK, MARGINAL};
 use reference::model::layout::*;
+use reference::model::offices::NO_SHARES;
 use reference::model::sheet_call::SheetCall;
 
 const SEED: u64 = 65_537_047;
@@ -49,13 +51,13 @@ fn calls(lot: u32, class: u32) -> [SheetCall; 7] {
     ]
 }
 
-fn each_call(comparer: &mut Comparer, lot: u32, class: u32) -> Compared {
+pub fn each_call(comparer: &mut Comparer, lot: u32, class: u32) -> Compared {
     let calls = calls(lot, class);
     calls.iter().try_for_each(|call| comparer.on_sheet(call))
 }
 
 /// Each call on these very words: those that write are undone.
-fn each_call_apart(comparer: &mut Comparer, lot: u32, class: u32) -> Compared {
+pub fn each_call_apart(comparer: &mut Comparer, lot: u32, class: u32) -> Compared {
     let before = comparer.sheet.words.clone();
     for call in calls(lot, class) {
         comparer.on_sheet(&call)?;
@@ -65,7 +67,7 @@ fn each_call_apart(comparer: &mut Comparer, lot: u32, class: u32) -> Compared {
 }
 
 /// Any words up to a greatest.
-fn any_words(random: &mut Random, length: usize, most: u32) -> Vec<u32> {
+pub fn any_words(random: &mut Random, length: usize, most: u32) -> Vec<u32> {
     (0..length).map(|_| random.between(0, most)).collect()
 }
 
@@ -79,7 +81,7 @@ fn sizes(comparer: &mut Comparer, random: &mut Random) -> Compared {
             each_call(comparer, 1, 0)?;
             each_call(comparer, 0, 4)?;
             for plan in [&[], &A[..4], &[5, 2, 3, 1, 3], A, SEVEN] {
-                comparer.on_sheet(&SheetCall::Fresh(plan.to_vec()))?;
+                comparer.on_sheet(&SheetCall::Fresh(plan.to_vec(), NO_SHARES))?;
                 each_call(comparer, 1, 0)?;
                 each_call(comparer, u32::MAX, 2)?;
             }
@@ -93,7 +95,7 @@ fn any_records(comparer: &mut Comparer, random: &mut Random) -> Compared {
     for round in 0..6_000 {
         let length = random.pick(&[room(1), room(2), room(2) + 3, room(3), room(5)]);
         comparer.new_sheet(any_words(random, length, 2));
-        comparer.on_sheet(&SheetCall::Fresh(UNIT.to_vec()))?;
+        comparer.on_sheet(&SheetCall::Fresh(UNIT.to_vec(), NO_SHARES))?;
         let words = &mut comparer.sheet.words;
         let indices = [0, 0, FIRST_RECORD, FIRST_RECORD + 1];
         words[NEXT_UNUSED] = random.between(FIRST_RECORD, FIRST_RECORD + 2);
@@ -155,7 +157,7 @@ type Draw = fn(&mut Random, [u32; 3]) -> SheetCall;
 fn play(comparer: &mut Comparer, random: &mut Random, plan: Vec<u32>, round: usize) -> Compared {
     let length = random.pick(&LENGTHS);
     comparer.new_sheet(any_words(random, length, u32::MAX));
-    comparer.on_sheet(&SheetCall::Fresh(plan))?;
+    comparer.on_sheet(&SheetCall::Fresh(plan, NO_SHARES))?;
     if round % 10 == 9 {
         // Accepted lots, so that few may be closed: 12.
         comparer.sheet.words[CLOSED_LOTS] = random.between(MOST_CLOSED - 4, MOST_CLOSED);
@@ -175,7 +177,7 @@ fn play(comparer: &mut Comparer, random: &mut Random, plan: Vec<u32>, round: usi
 const CLASSES: [u32; 8] = [0, 1, 2, 3, 4, 255, 256, u32::MAX];
 
 /// Each call on the sheet with one word damaged, which is then undone.
-fn damaged(comparer: &mut Comparer, random: &mut Random) -> Compared {
+pub fn damaged(comparer: &mut Comparer, random: &mut Random) -> Compared {
     let words = &mut comparer.sheet.words;
     let in_use = words.len().min(place(words[NEXT_UNUSED], 0));
     let index = match random.index(4) {

@@ -1,4 +1,4 @@
-//! A second implementation of 01, the scope document, with changes 1, 2, 4, 5 and 6
+//! A second implementation of 01, the scope document, with changes 1, 2, 4, 5, 6 and 7
 //! of 02, that shares no code with the library under crates/: the test oracle. Each part
 //! uses those before it.
 //!

@@ -10,6 +10,7 @@ use crate::generators::{blanks, draw};
 use crate::lines::{fields, sheet_lines};
 use crate::model::earliest::Table;
 use crate::model::judge::judge;
+use crate::model::layout::{place, room, CLASS, FIRST_RECORD};
 use crate::model::lots;
 use crate::model::plan::Plan;
 use crate::model::sheet::Sheet;
@@ -27,7 +28,7 @@ pub fn run(plans: usize, plays: usize) -> Result<usize, String> {
 }
 
 /// Calls on a sheet under plan A and their replies, found by hand: 01's lot 122 with a
-/// blank for its marginal unit, and an undecided lot with both, whose blank is at word 48.
+/// blank for its marginal unit, and an undecided lot with both.
 const REPLIES: &[(&str, &str)] = &[
     ("o 7", "ok"),
     ("i 7 3", "ok"),
@@ -47,19 +48,22 @@ const REPLIES: &[(&str, &str)] = &[
     ("s 8", "ok"),
     ("s 8", "ok"),
     ("l 8", "0 1 0 1 0 1"),
-    ("p 48 4", "ok"),
+    ("p BLANK 4", "ok"),
     ("l 8", "no 3"),
-    ("p 48 3", "ok"),
+    ("p BLANK 3", "ok"),
     ("s 8", "ok"),
     ("l 8", "0 0 0 0 0 0"),
 ];
 
+/// The word of the blank, in the record after the lot's.
+const AT_BLANK: usize = place(FIRST_RECORD + 1, CLASS);
+
 fn known_replies() -> Result<(), String> {
-    let mut sheet = Sheet::default();
-    let lines = ["n 84 5", "f 5 2 3 1 2"].map(|line| sheet_lines::answer(&mut sheet, line));
-    lines.into_iter().collect::<Result<Vec<_>, _>>()?;
+    let mut sheet = Sheet::new(vec![5; room(10)]);
+    sheet_lines::answer(&mut sheet, "f 5 2 3 1 2")?;
     for &(line, expected) in REPLIES {
-        let answer = sheet_lines::answer(&mut sheet, line)?;
+        let line = line.replace("BLANK", &AT_BLANK.to_string());
+        let answer = sheet_lines::answer(&mut sheet, &line)?;
         let (reply, _digest) = answer.rsplit_once(' ').unwrap_or((&answer, ""));
         if reply != expected {
             return Err(format!("{line} gives {reply}, not {expected}"));

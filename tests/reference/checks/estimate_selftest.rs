@@ -8,6 +8,7 @@ use crate::lines::plan_lines::classes;
 use crate::model::class::{BAD, BLANK, MARGINAL};
 use crate::model::earliest::by_completions;
 use crate::model::layout::room;
+use crate::model::offices::NO_SHARES;
 use crate::model::plan::Plan;
 use crate::model::sheet::Sheet;
 use std::collections::BTreeMap;
@@ -61,7 +62,7 @@ impl Estimates<'_> {
     /// That of a decided lot, by calls. It changes no word.
     fn of(&mut self, lot: &[u8]) -> Result<[u32; 4], String> {
         let sheet = &mut self.sheet;
-        let mut calls = vec![sheet.fresh(self.words), sheet.open(1)];
+        let mut calls = vec![sheet.fresh(self.words, &NO_SHARES), sheet.open(1)];
         calls.extend(lot.iter().map(|&class| sheet.inspect(1, class.into())));
         let before = sheet.words.clone();
         let estimate = sheet.estimate(1).ok().and_then(|four| four.try_into().ok());

@@ -7,6 +7,9 @@ mod closed_form;
 mod estimate_selftest;
 mod lot_chance_selftest;
 mod marked_selftest;
+mod office_coverage;
+mod office_places;
+mod office_selftest;
 mod only_unit_coverage;
 mod places_met;
 mod plan_selftest;
@@ -54,6 +57,21 @@ pub fn selftest() -> Result<(), String> {
     eprintln!("selftest passed: {plans} one-stage plans by the closed form, {more} by floats");
     let [lines, places] = units_coverage::run()?;
     eprintln!("selftest passed: {lines} lines for {places} places of expected units meet them all");
+    offices()
+}
+
+fn offices() -> Result<(), String> {
+    let plays = 400;
+    let [below, held_back] = office_selftest::run(plays)?;
+    eprintln!(
+        "selftest passed: {plays} lists of calls with shares, {below} records for offices \
+         below their shares, {held_back} held back"
+    );
+    let [lines, places, shares, held_back] = office_coverage::run()?;
+    eprintln!(
+        "selftest passed: {lines} lines for {places} places of offices meet them all, {shares} \
+         are refused 18 and {held_back} 19"
+    );
     Ok(())
 }
 

@@ -2,12 +2,14 @@
 //! histories alone. Here lists of calls are answered from histories, without any
 //! words, and the stops are found by writing out all completions.
 
+use crate::generators::office_draws::{self, Offices};
 use crate::generators::random::Random;
 use crate::generators::{blanks, draw};
 use crate::lines::sheet_lines::Write;
 use crate::model::class::HIGHEST;
 use crate::model::earliest::by_completions;
-use crate::model::layout::{records, room, FIRST_RECORD};
+use crate::model::layout::{records_after_head, room, OFFICES, RECORD_WORDS};
+use crate::model::offices::{Shares, NO_SHARES};
 use crate::model::plan::Plan;
 use crate::model::sheet::Sheet;
 use crate::model::sheet_call::SheetCall;
@@ -19,6 +21,7 @@ type Totals = [u64; 5];
 
 struct Histories {
     plan: Plan,
+    shares: Shares,
     lots: BTreeMap<u32, Vec<u8>>,
     totals: Totals,
     /// Records that lots and inspections may use.
@@ -28,7 +31,7 @@ struct Histories {
 impl Histories {
     fn make(&mut self, call: &SheetCall) -> Reply<Vec<u64>> {
         let done = match *call {
-            SheetCall::Fresh(ref words) => self.fresh(words),
+            SheetCall::Fresh(ref words, shares) => self.fresh(words, shares),
             SheetCall::Open(lot) => self.open(lot),
             SheetCall::Inspect(lot, class) => self.inspect(lot, class),
             SheetCall::Strike(lot) => self.strike(lot),
@@ -48,17 +51,30 @@ impl Histories {
         by_completions(&self.plan, history).map_or(0, |(_, state)| state)
     }
 
-    fn needs_a_record(&self) -> Reply<()> {
-        let used: usize = self.lots.values().map(|history| 1 + history.len()).sum();
-        if used < self.room {
-            Ok(())
-        } else {
-            Err(11)
+    /// The records left are always as many as all offices lack to reach their shares, or
+    /// more. A record is granted if that is so without it too (02, change 7).
+    fn needs_a_record(&self, lot: u32) -> Reply<()> {
+        let mut held = [0; OFFICES];
+        for (lot, history) in &self.lots {
+            held[*lot as usize % 16] += 1 + history.len();
+        }
+        let left = self.room - held.iter().sum::<usize>();
+        held[lot as usize % 16] += 1;
+        let lacks = |(&share, held)| (share as usize).saturating_sub(held);
+        let lacking: usize = self.shares.iter().zip(held).map(lacks).sum();
+        match left {
+            0 => Err(11),
+            _ if left - 1 < lacking => Err(19),
+            _ => Ok(()),
         }
     }
 
-    fn fresh(&mut self, words: &[u32]) -> Reply<()> {
-        self.plan = Plan::admitted(words).ok_or(2_u32)?;
+    fn fresh(&mut self, words: &[u32], shares: Shares) -> Reply<()> {
+        let plan = Plan::admitted(words).ok_or(2_u32)?;
+        if shares.iter().map(|&share| u128::from(share)).sum::<u128>() > self.room as u128 {
+            return Err(18);
+        }
+        (self.plan, self.shares) = (plan, shares);
         self.lots.clear();
         self.totals = Totals::default();
         Ok(())
@@ -71,7 +87,7 @@ impl Histories {
         if self.lots.contains_key(&lot) {
             return Err(5);
         }
-        self.needs_a_record()?;
+        self.needs_a_record(lot)?;
         self.lots.insert(lot, vec![]);
         Ok(())
     }
@@ -84,7 +100,7 @@ impl Histories {
         if self.state(history) != 0 {
             return Err(8);
         }
-        self.needs_a_record()?;
+        self.needs_a_record(lot)?;
         self.lots.entry(lot).or_default().push(class as u8);
         Ok(())
     }
@@ -186,27 +202,66 @@ pub fn run_with_blanks(plays: usize) -> Result<(), String> {
     Ok(())
 }
 
+/// With shares of offices, and with fresh among the calls, its shares fitting or not.
+pub fn run_with_shares(plays: usize) -> Result<(), String> {
+    let random = &mut Random::new(77);
+    for round in 0..plays {
+        let k = 1 + round % 3;
+        let marked = random.index(k);
+        let units = random.between(1, 4);
+        let words = draw::marked_plan(random, marked, k, units);
+        let records = random.at_ends_or_between(1, 24);
+        let length = room(records as usize) + random.index(RECORD_WORDS);
+        let offices = Offices::draw(random, records);
+        calls(random, &words, &offices.shares, length, |random| {
+            let shares = match random.index(80) {
+                0 => office_draws::too_many(random, records),
+                1 => office_draws::shares(random, records, &offices.lots),
+                _ => return offices.call(random, MIX),
+            };
+            SheetCall::Fresh(words.clone(), shares)
+        })?;
+    }
+    Ok(())
+}
+
 /// Draws a call by a mix of classes.
 type Draw = fn(&mut Random, [u32; 3]) -> SheetCall;
 
+const MIX: [u32; 3] = [2, 1, 1];
+
 fn play(random: &mut Random, words: &[u32], length: usize, draw: Draw) -> Result<(), String> {
+    calls(random, words, &NO_SHARES, length, |random| {
+        draw(random, MIX)
+    })
+}
+
+fn calls(
+    random: &mut Random,
+    words: &[u32],
+    shares: &Shares,
+    length: usize,
+    draw: impl Fn(&mut Random) -> SheetCall,
+) -> Result<(), String> {
     let mut sheet = Sheet::default();
     let (length, seed) = (length as u32, random.between(0, u32::MAX));
     Write::New { length, seed }.make(&mut sheet.words);
-    let fresh = sheet.fresh(words);
+    let fresh = sheet.fresh(words, shares);
     fresh.map_err(|number| format!("fresh with {words:?} is refused {number}"))?;
     let mut histories = Histories {
         plan: Plan::admitted(words).ok_or("the plan is drawn as an admitted one")?,
+        shares: *shares,
         lots: BTreeMap::new(),
         totals: Totals::default(),
-        room: records(sheet.words.len()) - FIRST_RECORD as usize,
+        room: records_after_head(sheet.words.len()),
     };
     for _ in 0..120 {
-        let call = draw(random, [2, 1, 1]);
+        let call = draw(random);
         let (reply, expected) = (call.make(&mut sheet), histories.make(&call));
         if reply != expected {
             return Err(format!(
-                "{call:?} under {words:?}: {reply:?}, not {expected:?}"
+                "{call:?} under {words:?} with shares {:?}: {reply:?}, not {expected:?}",
+                histories.shares
             ));
         }
     }

@@ -1,7 +1,8 @@
 //! What the seeded cases cover, so that one can see that they are telling.
 
-use crate::generators::plan_cases;
+use crate::generators::{plan_cases, sheet_cases};
 use crate::lines::plan_lines::Case;
+use crate::lines::sheet_lines::Command;
 use crate::model::chance::{Bounds, Weights, UNITS};
 use crate::model::class::BLANK;
 use crate::model::earliest::{few_completions, Stop, Table};
@@ -9,6 +10,7 @@ use crate::model::judge::Judgement;
 use crate::model::lot_chance::{self, Lot};
 use crate::model::plan::{broken, Counts, Plan, BOTH, STAGE_WORDS};
 use crate::model::plan_calls::PlanCalls;
+use crate::model::sheet::Sheet;
 use crate::model::Reply;
 use std::collections::{BTreeMap, HashSet};
 
@@ -17,16 +19,38 @@ type Tally = BTreeMap<String, usize>;
 
 pub fn write() -> Result<(), String> {
     let lines = plan_cases::all();
-    let bytes: usize = lines.iter().map(|line| line.len() + 1).sum();
     let mut calls = PlanCalls::default();
     let mut tally = Tally::new();
     for line in &lines {
         case(&mut tally, &mut calls, Case::parse(line)?);
     }
+    print(&lines, tally);
+    sheets()
+}
+
+fn print(lines: &[String], tally: Tally) {
+    let bytes: usize = lines.iter().map(|line| line.len() + 1).sum();
     eprintln!("{} lines, {bytes} bytes", lines.len());
     for (what, count) in tally {
         eprintln!("{count:6}  {what}");
     }
+}
+
+/// The calls on sheets by their replies.
+fn sheets() -> Result<(), String> {
+    let lines = sheet_cases::all();
+    let mut sheet = Sheet::default();
+    let mut tally = Tally::new();
+    for line in &lines {
+        match Command::parse(line)? {
+            Command::Write(write) => write.make(&mut sheet.words),
+            Command::Call(call) => match call.make(&mut sheet) {
+                Ok(_) => count(&mut tally, format!("{}: granted", call.name())),
+                Err(number) => refused(&mut tally, call.name(), number),
+            },
+        }
+    }
+    print(&lines, tally);
     Ok(())
 }
 

@@ -9,7 +9,7 @@ use super::marked_edges::marked_edges;
 use super::marked_plans::{classes_of, EITHER_UNIT, INSIDE, PUBLISHED, TO_STAGE_7};
 use super::random::Random;
 use crate::lines::fields;
-use crate::model::layout::{records, FIRST_RECORD, PROGRAM_WORDS};
+use crate::model::layout::{records_after_head, PROGRAM_WORDS};
 use crate::model::lots::LINE_BYTES;
 
 pub const LISTING: &str = "p 5 2 3 1 2\no 7\ni 7 1\ni 7 2\ni 7 2\nl 7\ni 7 0\nc 7\nt\n";
@@ -175,7 +175,7 @@ fn refusals(script: &mut Vec<u8>) {
 /// Lots with a unit each and one lot more fill the sheet: its records are odd in
 /// number.
 fn filled(script: &mut Vec<u8>) {
-    let lots = (records(PROGRAM_WORDS) as u32 - FIRST_RECORD) / 2;
+    let lots = records_after_head(PROGRAM_WORDS) as u32 / 2;
     let more = lots + 1;
     line(script, "p 1 0 1 0 1");
     for lot in 1..=lots {

@@ -10,6 +10,8 @@
 //! - With blanks: blanks, which makes them; blank_lists, blank_stops; blank_sheets,
 //!   blank_refusals; blank_script.
 //! - Estimates of lots that have one unit: only_units.
+//! - With shares of offices: office_draws, which has them; office_shares, office_grants,
+//!   office_returns, office_damage, office_plays.
 
 pub mod blank_lists;
 pub mod blank_refusals;
@@ -28,6 +30,12 @@ pub mod marked_cases;
 pub mod marked_edges;
 pub mod marked_plans;
 pub mod marked_sheets;
+pub mod office_damage;
+pub mod office_draws;
+pub mod office_grants;
+pub mod office_plays;
+pub mod office_returns;
+pub mod office_shares;
 pub mod only_units;
 pub mod plan_cases;
 pub mod plan_edges;

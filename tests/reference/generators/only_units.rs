@@ -184,7 +184,7 @@ impl Script {
     /// A sheet of the greatest size full of lots of one unit, written in few lines. They
     /// take two records each, and one is left. Gives the number of lots.
     pub fn full_of_only_units(&mut self, class: u8) -> usize {
-        let lots = (records(MOST_WORDS) - FIRST_RECORD as usize) / 2;
+        let lots = records_after_head(MOST_WORDS) / 2;
         let (less, two) = (lots - 1, 2 * RECORD_WORDS);
         self.fresh(MOST_WORDS, 0, UNIT);
         self.lines(&format!("p next-unused @{}, p first-lot @0", 2 * lots));

@@ -1,7 +1,8 @@
 //! The seeded lists of commands on sheets: hand-written ones, then random ones.
 //! sheet_damage.rs has those that damage a sheet between two calls, marked_sheets.rs
 //! those with marked stages, blank_sheets.rs and blank_refusals.rs those with blanks,
-//! only_units.rs those with estimates of lots that have one unit.
+//! only_units.rs those with estimates of lots that have one unit, and office_*.rs those
+//! with shares of offices.
 
 use super::draw;
 use super::hand_written::{runs, A, B, LARGEST, ONE, SEVEN, THREE, TWO, UNIT, WRAPS};
@@ -18,7 +19,7 @@ const SEED: u64 = 65_536_048;
 
 /// Records of a sheet of the greatest size, and how many come after the head.
 const RECORDS: usize = records(MOST_WORDS);
-const ROOM: usize = RECORDS - FIRST_RECORD as usize;
+const ROOM: usize = records_after_head(MOST_WORDS);
 
 /// Lengths of small sheets, some with words after the last whole record.
 const LENGTHS: [usize; 8] = [
@@ -84,6 +85,7 @@ pub fn all() -> Vec<String> {
     script.blank_sheets();
     script.blank_refusals();
     script.only_units();
+    script.offices();
     script.finish()
 }
 
@@ -99,6 +101,13 @@ pub fn blanks() -> Vec<String> {
 pub fn only_units() -> Vec<String> {
     let mut script = Script::new(SEED);
     script.only_units();
+    script.finish()
+}
+
+/// The lines of office_*.rs alone.
+pub fn offices() -> Vec<String> {
+    let mut script = Script::new(SEED);
+    script.offices();
     script.finish()
 }
 

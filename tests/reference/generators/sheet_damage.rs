@@ -1,5 +1,5 @@
 //! Commands on damaged sheets: each word changed alone, and named kinds of
-//! damage that need several words.
+//! damage that need several words. office_damage.rs has the damage of shares.
 
 use super::hand_written::{A, B, TWO, UNIT};
 use super::sheet_script::Script;
@@ -73,14 +73,17 @@ impl Script {
         self.lines("o 7, i 7 2, i 7 2, s 7, i 4 0, s 4, s 7");
     }
 
-    /// Each word with values next to its own, and with ones out of all limits. Those of a
-    /// class are to tear the sheet, so the highest class becomes the one above it.
+    /// Each word but the shares with values next to its own, and with ones out of all
+    /// limits. Those of a class are to tear the sheet, so the highest class becomes the one
+    /// above it.
     fn each_word(&mut self) {
         let before = self.words().to_vec();
-        for (index, &word) in before.iter().enumerate() {
+        let indices = (0..SHARES).chain(HEAD..before.len());
+        for (turn, index) in indices.enumerate() {
+            let word = before[index];
             let near = [word ^ 1, word.wrapping_add(1), word.wrapping_sub(1)];
             let first = FIRST_RECORD;
-            let far = [0, 3, first - 1, first, first + 3, before[NEXT_UNUSED]][index % 6];
+            let far = [0, 3, first - 1, first, first + 3, before[NEXT_UNUSED]][turn % 6];
             let mut values = [&near[..], &[u32::MAX, far]].concat();
             values.retain(|&value| value != word);
             values.dedup();
@@ -91,17 +94,18 @@ impl Script {
             }
             for value in values {
                 self.put(index, value);
-                self.damaged(&before, index);
+                self.damaged(turn, before.len() - index < 3);
                 self.restore(&before);
             }
         }
     }
 
-    /// Tally, and now and then a call that would write.
-    fn damaged(&mut self, before: &[u32], index: usize) {
+    /// Tally, and now and then a call that would write: on a torn sheet, and where the
+    /// word is after the last record.
+    fn damaged(&mut self, turn: usize, after_records: bool) {
         let torn = self.line("t").starts_with("no 3");
-        let call = ["o 6", "i 9 0", "s 5", "c 3", "l 5", "i 3 4", "s 9"][index % 7];
-        if torn || before.len() - index < 3 {
+        let call = ["o 6", "i 9 0", "s 5", "c 3", "l 5", "i 3 4", "s 9"][turn % 7];
+        if torn || after_records {
             self.line(call);
         } else {
             self.line("l 5");

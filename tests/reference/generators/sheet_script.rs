@@ -5,9 +5,11 @@
 //! `@0.1`, the place of word 1 of it; `record`, the words of a record.
 
 use super::random::Random;
-use crate::lines::{fields, sheet_lines};
+use crate::lines::sheet_lines;
 use crate::model::layout::*;
+use crate::model::offices::{Shares, NO_SHARES};
 use crate::model::sheet::Sheet;
+use crate::model::sheet_call::SheetCall;
 
 /// The lines so far, and the sheet as they leave it.
 pub struct Script {
@@ -42,8 +44,19 @@ impl Script {
     }
 
     pub fn fresh(&mut self, length: usize, seed: u32, plan: &[u32]) {
+        self.fresh_with(length, seed, plan, &NO_SHARES);
+    }
+
+    /// Alike, with these shares of the offices.
+    pub fn fresh_with(&mut self, length: usize, seed: u32, plan: &[u32], shares: &Shares) {
         self.line(&format!("n {length} {seed}"));
-        self.line(&format!("f{}", fields(plan)));
+        self.give(plan, shares);
+    }
+
+    /// Fresh on the sheet that is there.
+    pub fn give(&mut self, plan: &[u32], shares: &Shares) {
+        let call = SheetCall::Fresh(plan.to_vec(), *shares);
+        self.line(&sheet_lines::call_line(&call));
     }
 
     pub fn put(&mut self, index: usize, word: u32) {

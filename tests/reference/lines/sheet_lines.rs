@@ -4,13 +4,16 @@
 //! - `p INDEX WORD`: writes a word.
 //! - `a INDEX STRIDE COUNT START STEP`: writes START, START + STEP, .. to COUNT
 //!   words, the first at INDEX, each STRIDE after the one before.
-//! - `f` and plan words: fresh. `o LOT`: open. `i LOT CLASS`: inspect.
-//!   `s LOT`: strike. `c LOT`: close. `l LOT`: look. `t`: tally. `e LOT`: estimate.
+//! - `f` and plan words: fresh, every office's share 0. `g`, 16 shares and plan words:
+//!   fresh with these shares, that of office 0 first (02, change 7).
+//! - `o LOT`: open. `i LOT CLASS`: inspect. `s LOT`: strike. `c LOT`: close.
+//!   `l LOT`: look. `t`: tally. `e LOT`: estimate.
 //!
 //! Words that are written are taken modulo 2^32. The first three get `ok`. A
 //! call gets `ok`, its values, or `no` and a number, then the digest of all words.
 
 use super::{fields, reply_text};
+use crate::model::offices::NO_SHARES;
 use crate::model::sheet::Sheet;
 use crate::model::sheet_call::SheetCall;
 
@@ -66,7 +69,11 @@ fn write(kind: &str, numbers: &[u32]) -> Option<Write> {
 
 fn call(kind: &str, numbers: &[u32]) -> Option<SheetCall> {
     match (kind, numbers) {
-        ("f", plan) => Some(SheetCall::Fresh(plan.to_vec())),
+        ("f", plan) => Some(SheetCall::Fresh(plan.to_vec(), NO_SHARES)),
+        ("g", numbers) => {
+            let (shares, plan) = numbers.split_first_chunk()?;
+            Some(SheetCall::Fresh(plan.to_vec(), *shares))
+        }
         ("o", &[lot]) => Some(SheetCall::Open(lot)),
         ("i", &[lot, class]) => Some(SheetCall::Inspect(lot, class)),
         ("s", &[lot]) => Some(SheetCall::Strike(lot)),
@@ -81,7 +88,10 @@ fn call(kind: &str, numbers: &[u32]) -> Option<SheetCall> {
 /// The line of a call.
 pub fn call_line(call: &SheetCall) -> String {
     match *call {
-        SheetCall::Fresh(ref plan) => format!("f{}", fields(plan)),
+        SheetCall::Fresh(ref plan, NO_SHARES) => format!("f{}", fields(plan)),
+        SheetCall::Fresh(ref plan, ref shares) => {
+            format!("g{}{}", fields(shares), fields(plan))
+        }
         SheetCall::Open(lot) => format!("o {lot}"),
         SheetCall::Inspect(lot, class) => format!("i {lot} {class}"),
         SheetCall::Strike(lot) => format!("s {lot}"),

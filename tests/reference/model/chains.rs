@@ -1,8 +1,9 @@
-//! A sheet as its chains have it; torn ones have none (01 "Sheet").
+//! A sheet as its chains have it; torn ones have none (01 "Sheet"; 02, change 7).
 
 use super::class::HIGHEST;
 use super::earliest::{Stop, Table};
 use super::layout::*;
+use super::offices;
 use super::plan::{Counts, Plan, BOTH, MOST_STAGES, MOST_UNITS, STAGE_WORDS};
 use std::collections::HashMap;
 use std::rc::Rc;
@@ -101,7 +102,7 @@ fn totals_hold(words: &[u32]) -> bool {
     lots <= u64::from(MOST_CLOSED) && units <= MOST_UNITS * lots
 }
 
-/// The records of a chain from its first index; None if an index is outside 11
+/// The records of a chain from its first index; None if an index is outside 15
 /// to word 0 less 1, or if the chain is longer than the records in use.
 fn chain(words: &[u32], first: u32) -> Option<Vec<u32>> {
     let mut found = Vec::new();
@@ -162,6 +163,9 @@ pub fn intact(words: &[u32], plans: &mut Plans) -> Option<Chains> {
     let next_unused = words[NEXT_UNUSED] as usize;
     let first = FIRST_RECORD as usize;
     if !(first..=records(words.len())).contains(&next_unused) || !totals_hold(words) {
+        return None;
+    }
+    if !offices::fit(&offices::shares_of(words), words.len()) {
         return None;
     }
     let lots = chain(words, words[FIRST_LOT])?;

@@ -1,8 +1,8 @@
-//! Sizes and places of a sheet's words (01 "Sheet"). No other file has these
-//! numbers.
+//! Sizes and places of a sheet's words (01 "Sheet", with the head of 02, change 7). No
+//! other file has these numbers.
 
 /// Words of a sheet.
-pub const LEAST_WORDS: usize = 48;
+pub const LEAST_WORDS: usize = 64;
 pub const MOST_WORDS: usize = 65_536;
 
 /// Words of the sheet of the program lots (01 "Program lots").
@@ -12,7 +12,7 @@ pub const PROGRAM_WORDS: usize = 16_384;
 pub const RECORD_WORDS: usize = 4;
 
 /// The first record after the head, and the words of the head.
-pub const FIRST_RECORD: u32 = 11;
+pub const FIRST_RECORD: u32 = 15;
 pub const HEAD: usize = FIRST_RECORD as usize * RECORD_WORDS;
 
 // Places of words in the head.
@@ -26,6 +26,10 @@ pub const CLOSED_LOTS: usize = 39;
 /// Good, marginal and bad units of closed lots.
 pub const CLOSED_UNITS: usize = 41;
 pub const TOTALS_END: usize = 44;
+/// Each office's share of records, behind the totals, up to the end of the head.
+pub const SHARES: usize = TOTALS_END;
+pub const OFFICES: usize = 16;
+const _: () = assert!(SHARES + OFFICES == HEAD);
 
 /// The most closed lots.
 pub const MOST_CLOSED: u32 = 4_000_000;
@@ -55,6 +59,11 @@ pub const fn place(record: u32, word: usize) -> usize {
 /// The whole records of a sheet, those of the head too.
 pub const fn records(words: usize) -> usize {
     words / RECORD_WORDS
+}
+
+/// The whole records of a sheet after the head.
+pub const fn records_after_head(words: usize) -> usize {
+    records(words) - FIRST_RECORD as usize
 }
 
 /// The words of a sheet with so many records after the head.

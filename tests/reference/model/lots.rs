@@ -1,6 +1,8 @@
-//! 01 "Program lots": the replies to standard input, on one sheet.
+//! 01 "Program lots": the replies to standard input, on one sheet. No office has a share
+//! of it (02, change 7).
 
 use super::layout::PROGRAM_WORDS;
+use super::offices::NO_SHARES;
 use super::plan::whole_stages;
 use super::sheet::Sheet;
 use super::Reply;
@@ -57,7 +59,7 @@ fn fields(line: &[u8]) -> Option<(u8, Vec<u32>)> {
 fn answer(sheet: &mut Sheet, line: &[u8]) -> Reply<String> {
     let (letter, numbers) = fields(line).ok_or(16_u32)?;
     let done = match (letter, numbers.as_slice()) {
-        (b'p', plan) if whole_stages(plan.len()) => sheet.fresh(plan),
+        (b'p', plan) if whole_stages(plan.len()) => sheet.fresh(plan, &NO_SHARES),
         (b'o', &[lot]) => sheet.open(lot),
         (b'i', &[lot, class]) => sheet.inspect(lot, class),
         (b's', &[lot]) => sheet.strike(lot),

@@ -4,6 +4,7 @@
 use super::chains::{intact, word, Chains, Plans};
 use super::class::{blanks, counts, HIGHEST};
 use super::layout::*;
+use super::offices::{self, Shares};
 use super::plan::STAGE_WORDS;
 use super::Reply;
 
@@ -33,15 +34,21 @@ impl Sheet {
         intact(&self.words, &mut self.plans).ok_or(3)
     }
 
-    /// A record for a call that needs one: the first free, else the next never
-    /// used. Nothing is written yet.
-    fn spare(&self, chains: &Chains) -> Reply<u32> {
+    /// A record for a call that needs one for this lot: the first free, else the next
+    /// never used. Nothing is written yet.
+    fn spare(&self, chains: &Chains, lot: u32) -> Reply<u32> {
         let unused = self.words[NEXT_UNUSED];
-        match chains.free.first() {
-            Some(&at) => Ok(at),
-            None if (unused as usize) < records(self.words.len()) => Ok(unused),
-            None => Err(11),
+        let never_used = records(self.words.len()) - unused as usize;
+        let spare = chains.free.len() + never_used;
+        if spare == 0 {
+            return Err(11);
         }
+        let shares = offices::shares_of(&self.words);
+        let held = offices::held(&chains.lots);
+        if !offices::grants(&shares, &held, offices::office(lot), spare as u64) {
+            return Err(19);
+        }
+        Ok(chains.free.first().copied().unwrap_or(unused))
     }
 
     fn take(&mut self, chains: &Chains, record: u32, words: [u32; RECORD_WORDS]) {
@@ -76,13 +83,17 @@ impl Sheet {
         before.map_or(FIRST_LOT, |lot| place(lot.record, NEXT))
     }
 
-    pub fn fresh(&mut self, plan: &[u32]) -> Reply<()> {
+    pub fn fresh(&mut self, plan: &[u32], shares: &Shares) -> Reply<()> {
         self.size()?;
         self.plans.admitted(plan).ok_or(2_u32)?;
-        self.words[..HEAD].fill(0);
+        if !offices::fit(shares, self.words.len()) {
+            return Err(18);
+        }
+        self.words[..SHARES].fill(0);
         self.words[NEXT_UNUSED] = FIRST_RECORD;
         self.words[K] = (plan.len() / STAGE_WORDS) as u32;
         self.words[STAGES..STAGES + plan.len()].copy_from_slice(plan);
+        self.words[SHARES..HEAD].copy_from_slice(shares);
         Ok(())
     }
 
@@ -94,7 +105,7 @@ impl Sheet {
         if chains.lot(number).is_some() {
             return Err(5);
         }
-        let record = self.spare(&chains)?;
+        let record = self.spare(&chains, number)?;
         let link = self.link_to(&chains, number);
         let next = self.words[link];
         self.take(&chains, record, [number, next, 0, 0]);
@@ -111,7 +122,7 @@ impl Sheet {
         if lot.stop.is_some() {
             return Err(8);
         }
-        let record = self.spare(&chains)?;
+        let record = self.spare(&chains, number)?;
         let serial = lot.inspections.len() as u32 + 1;
         let newest = place(lot.record, NEWEST);
         let older = self.words[newest];

@@ -1,11 +1,13 @@
 //! A call on a sheet as a value.
 
+use super::offices::Shares;
 use super::sheet::Sheet;
 use super::Reply;
 
 #[derive(Clone, Debug)]
 pub enum SheetCall {
-    Fresh(Vec<u32>),
+    /// Plan and shares.
+    Fresh(Vec<u32>, Shares),
     Open(u32),
     Inspect(u32, u32),
     Strike(u32),
@@ -18,7 +20,7 @@ pub enum SheetCall {
 impl SheetCall {
     pub fn name(&self) -> &'static str {
         match self {
-            SheetCall::Fresh(_) => "fresh",
+            SheetCall::Fresh(..) => "fresh",
             SheetCall::Open(_) => "open",
             SheetCall::Inspect(..) => "inspect",
             SheetCall::Strike(_) => "strike",
@@ -33,7 +35,7 @@ impl SheetCall {
     pub fn make(&self, sheet: &mut Sheet) -> Reply<Vec<u64>> {
         let values = |words: Vec<u32>| words.into_iter().map(u64::from).collect();
         let done = match *self {
-            SheetCall::Fresh(ref plan) => sheet.fresh(plan),
+            SheetCall::Fresh(ref plan, ref shares) => sheet.fresh(plan, shares),
             SheetCall::Open(lot) => sheet.open(lot),
             SheetCall::Inspect(lot, class) => sheet.inspect(lot, class),
             SheetCall::Strike(lot) => sheet.strike(lot),
