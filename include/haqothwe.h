@@ -22,15 +22,15 @@
 extern "C" {
 #endif
 
-/* The refusals in their order of precedence, in which 18 stands after 2, 19 after
+/* The refusals in their order of precedence, in which 18 stands after 3, 19 after
    11 and 17 after 13; haq_refusal_text gives their sentences. In quotes the word of
    documents 01 and 02 where it is another than the name. */
 enum haq_refusal {
     HAQ_GRANTED = 0,
     HAQ_SHEET_SIZE = 1,      /* the sheet has fewer than 64 words or more than 65,536 */
     HAQ_PLAN = 2,            /* the plan is not admitted */
-    HAQ_SHARES = 18,         /* the shares add to more than the records after the header */
     HAQ_CORRUPT = 3,         /* the sheet is corrupt ("torn") */
+    HAQ_SHARES = 18,         /* the shares add to more than the records after the header */
     HAQ_LOT_ZERO = 4,        /* 0 is not a lot number ("blank lot") */
     HAQ_OPEN_ALREADY = 5,    /* the lot is open already */
     HAQ_NOT_OPEN = 6,        /* the lot is not open */
@@ -55,8 +55,8 @@ static inline const char *haq_refusal_text(uint32_t number) {
     case HAQ_GRANTED: return "granted";
     case HAQ_SHEET_SIZE: return "the sheet has fewer than 64 words or more than 65,536";
     case HAQ_PLAN: return "the plan is not admitted";
-    case HAQ_SHARES: return "the shares add to more than the records after the header";
     case HAQ_CORRUPT: return "the sheet is corrupt";
+    case HAQ_SHARES: return "the shares add to more than the records after the header";
     case HAQ_LOT_ZERO: return "0 is not a lot number";
     case HAQ_OPEN_ALREADY: return "the lot is open already";
     case HAQ_NOT_OPEN: return "the lot is not open";

@@ -53,8 +53,8 @@ macro_rules! refusals {
 refusals! {
     1 SheetSize "the sheet has fewer than 64 words or more than 65,536"
     2 Plan "the plan is not admitted"
-    18 Shares "the shares add to more than the records after the header"
     3 Corrupt "the sheet is corrupt"
+    18 Shares "the shares add to more than the records after the header"
     4 LotZero "0 is not a lot number"
     5 OpenAlready "the lot is open already"
     6 NotOpen "the lot is not open"

@@ -28,9 +28,9 @@ def asked(program, numbers):
 
 class Words(unittest.TestCase):
     def test_table(self):
-        """Each number once, in ascending order but for 18, 19 and 17, which follow 2, 11 and 13."""
+        """Each number once, in ascending order but for 18, 19 and 17, which follow 3, 11 and 13."""
         numbers = [row.number for row in TABLE]
-        self.assertEqual(numbers, [1, 2, 18, *range(3, 12), 19, 12, 13, 17, 14, 15, 16])
+        self.assertEqual(numbers, [1, 2, 3, 18, *range(4, 12), 19, 12, 13, 17, 14, 15, 16])
 
     def test_readme(self):
         self.assertEqual(refusals("README.md", "Refusals"), TABLE)
