@@ -5,9 +5,8 @@ use mathlib.Core.Path.{_≡_, refl, sym, ap, _∙_}
 use mathlib.Core.Logic.{_≢_, inl, inr}
 use mathlib.Core.Bool.{Bool, true, false, not}
 use mathlib.Core.Option.{Option, none, some}
-use mathlib.Core.List.{List, [], _∷_, _++_}
+use mathlib.Core.List.{List, [], _++_}
 use lib.ListN.{length}
-use lib.Dec.{ltb}
 use borrow.Author.Tests.{lt-ltb, le-ltb, eq-eqb, ne-eqb, leb-false}
 use Rattle.plan.specs.Plan.{stages, admitted}
 use Rattle.plan.specs.Counts.{counts, units}

@@ -10,7 +10,7 @@ use lib.ListN.{length, set, replicate, length-set, getD-replicate}
 use lib.Dec.{ltb, eqb}
 use borrow.Author.Tests.{lt-ltb, le-ltb, eq-eqb, ne-eqb, eqb-true, eqb-false}
 use Rattle.sheetmodel.specs.Layout.{largest, word, field, next, newest, records, next-unused, first-lot, first-record, offices, share}
-use Rattle.sheetmodel.specs.Contents.{Inspection, Lot, Contents, records-of}
+use Rattle.sheetmodel.specs.Contents.{Inspection, Lot, Contents}
 use Rattle.sheetmodel.specs.Holds.{Inspections, Lots, Holds}
 use Rattle.sheetmodel.specs.Offices.{office, added-up, held, lacking, all-lacking, others-lacking, spare, may-take}
 use Rattle.sheetmodel.specs.Read.{read, serial-at, depth}
@@ -156,22 +156,19 @@ count-done w ls h at c z = go (c .rest) (c .chain) (c .so-far)
 
 -- ---- the rule
 
-module _ (w : List ℕ) (k : Whole-sheet w) (n left : ℕ) (left-is : left ≡ depth w + (records w - word w next-unused)) where
+module _ (w : List ℕ) (n left : ℕ) (left-is : left ≡ spare w (contents w)) where
   abbrev own : ℕ
   own = office n
 
   abbrev lots : List Lot
   lots = contents w .lots
 
-  spare-is : left ≡ spare w (contents w)
-  spare-is = omega (arith, depth-is w k)
-
   -- no office lacks more than its share
   pub more-than-shares : added-up offices (share w) < left → may-take w (contents w) own ≡ true
   unfolding may-take
   more-than-shares b =
       let few = sum-most offices (lacking w lots) (share w) (λ o. omega arith) in
-      let c : others-lacking w lots own < spare w (contents w) = omega (arith, others-and-own w lots own (an-office n), spare-is) in
+      let c : others-lacking w lots own < spare w (contents w) = omega (arith, others-and-own w lots own (an-office n)) in
       rw (lt-ltb (others-lacking w lots own) (spare w (contents w)) c) (or-true (ltb (held lots own) (share w own)))
 
   module _ (h : List ℕ) (counted : Held-by lots h) where
@@ -187,4 +184,4 @@ module _ (w : List ℕ) (k : Whole-sheet w) (n left : ℕ) (left-is : left ≡ d
     by-spare b lack e =
         let all : lack ≡ all-lacking w lots = e ∙ sum-same offices (λ o. share w o - word h o) (lacking w lots) (λ o c. ap (λ (x : ℕ). share w o - x) (counted .each o c)) in
         let others : lack ≡ others-lacking w lots own = omega (arith, others-and-own w lots own (an-office n), held-is) in
-        rw (le-ltb (held lots own) (share w own) (omega (arith, held-is)), others, spare-is)
+        rw (le-ltb (held lots own) (share w own) (omega (arith, held-is)), others, left-is)

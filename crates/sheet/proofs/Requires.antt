@@ -10,13 +10,11 @@ use native.Mathlib.Omega.{arith}
 use lib.ListN.{length}
 use Rattle.plan.specs.declared.stage.Answer.{Answer}
 use Rattle.plan.specs.declared.stage.Answer.the-variants.{GoOn, Accept, Reject}
-use Rattle.plan.specs.Plan.{stages}
 use Rattle.plan.specs.Counts.{counts, units}
-use Rattle.plan.specs.Promise.{History}
 use Rattle.plan.proofs.Promise.{shape, promise, counting}
 use Rattle.sheetmodel.specs.Layout.{largest, size-ok, word, newest, next-unused, first-lot, first-free, first-record, plan-words, closed-lots, most-closed}
 use Rattle.sheetmodel.specs.Contents.{Inspection, Lot, Contents, history, find, records-of}
-use Rattle.sheetmodel.specs.Holds.{Inspections, Free, All-undecided-before, Holds}
+use Rattle.sheetmodel.specs.Holds.{Inspections, Free, Holds}
 use Rattle.sheetmodel.specs.Read.{read, serial-at}
 use Rattle.sheetmodel.specs.Rows.{is-some}
 use Rattle.sheetmodel.specs.Calls.{full, last-below, predecessor, lots-total, lot-answer}

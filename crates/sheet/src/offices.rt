@@ -13,9 +13,9 @@ ghost use mathlib.Core.Path.{_≡_};
 ghost use Prim.Native.Nat.{_+_, _-_, _*_, _≤_, _<_};
 ghost use lib.ListN.{length};
 ghost use lib.Dec.{leb};
-ghost use Rattle.sheetmodel.specs.Layout.{least-size, greatest-size, word, records, first-record, next-unused, offices, share};
-ghost use Rattle.sheetmodel.specs.Offices.{office, added-up, shares-fit, may-take};
-ghost use Rattle.sheetmodel.specs.Read.{serial-at, depth};
+ghost use Rattle.sheetmodel.specs.Layout.{least-size, greatest-size, word, records, first-record, offices, share};
+ghost use Rattle.sheetmodel.specs.Offices.{office, added-up, shares-fit, spare, may-take};
+ghost use Rattle.sheetmodel.specs.Read.{serial-at};
 ghost use Rattle.sheetmodel.specs.Calls.{contents};
 ghost use Rattle.sheet.specs.Sharing.{Whole-sheet, Held-by};
 
@@ -117,7 +117,7 @@ fn all_lacking(sheet: &[u32], held: &[u32; 16]) -> u64
 // The records free and unused.
 fn spare(sheet: &[u32]) -> u64
     requires { ⌜ Whole-sheet (now sheet) ⌝ }
-    ensures { λ r. ⌜ r ≡ depth (now (sheet .entry)) + (records (now (sheet .entry)) - word (now (sheet .entry)) next-unused) ⌝ }
+    ensures { λ r. ⌜ r ≡ spare (now (sheet .entry)) (contents (now (sheet .entry))) ⌝ }
 {
     let unused = record_count(sheet) as u64 - sheet[NEXT_UNUSED] as u64;
     depth_of(sheet) as u64 + unused

@@ -15,7 +15,7 @@ use Rattle.plan.proofs.Promise.{counting}
 use Rattle.sheetmodel.specs.declared.reply.Estimate.{Estimate}
 use Rattle.sheetmodel.specs.declared.reply.Estimated.{Estimated}
 use Rattle.sheetmodel.specs.declared.reply.Estimated.the-variants as estimated
-use Rattle.sheetmodel.specs.Layout.{first-record, plan-words}
+use Rattle.sheetmodel.specs.Layout.{plan-words}
 use Rattle.sheetmodel.specs.Contents.{Contents, history, find}
 use Rattle.sheetmodel.specs.Read.{read}
 use Rattle.sheetmodel.specs.Rows.{is-some}

@@ -1,6 +1,6 @@
 -- `sheet::all_lacking` meets its contract. The loop's invariant: what the offices so far lack. Assumes nothing.
-use Prim.Native.Nat.{ℕ, _+_, _-_, _*_, _≤_}
-use mathlib.Core.Path.{_≡_, _∙_}
+use Prim.Native.Nat.{_+_, _-_, _*_, _≤_}
+use mathlib.Core.Path.{_≡_}
 use native.Mathlib.Omega.{arith}
 use borrow.Author.Needs.{needs}
 use Rattle.sheetmodel.specs.Layout.{largest, word, shares-start, offices, share}

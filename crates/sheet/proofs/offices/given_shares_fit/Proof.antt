@@ -2,9 +2,8 @@
 use mathlib.Core.Path.{_∙_, ap}
 use native.Mathlib.Omega.{arith}
 use Prim.Native.Nat.{ℕ, _+_}
-use borrow.Author.Needs.{needs}
 use Rattle.sheetmodel.specs.Layout.{word, offices}
-use Rattle.sheetmodel.specs.Offices.{added-up, shares-fit}
+use Rattle.sheetmodel.specs.Offices.{shares-fit}
 use Rattle.sheetmodel.proofs.ForSheet.{sum-same}
 use Rattle.sheet.proofs.offices.given_shares_fit.Statement.{statement}
 use Rattle.sheet.proofs.offices.given_shares_fit.Tie as tie

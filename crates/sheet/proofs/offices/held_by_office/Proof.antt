@@ -1,9 +1,6 @@
 -- `sheet::held_by_office` meets its contract. The loop's invariant: what the offices hold of the lots so far. Assumes nothing.
-use Prim.Native.Nat.{ℕ, _+_, _≤_}
-use mathlib.Core.Path.{_≡_, refl, sym, ap, _∙_}
-use mathlib.Core.List.{List}
+use Prim.Native.Nat.{_+_, _≤_}
 use native.Mathlib.Omega.{arith}
-use lib.ListN.{length}
 use borrow.Author.Needs.{needs}
 use Rattle.sheetmodel.specs.Layout.{largest, word, offices}
 use Rattle.sheetmodel.specs.Calls.{contents}

@@ -1,5 +1,5 @@
 -- `sheet::may_take` meets its contract: the rule, by what was counted. Assumes nothing.
-use mathlib.Core.Path.{_≡_, sym, _∙_}
+use mathlib.Core.Path.{sym}
 use native.Mathlib.Omega.{arith}
 use borrow.Author.Needs.{needs}
 use Rattle.sheetmodel.proofs.ForSheet.{an-office}
@@ -17,7 +17,7 @@ returns : tie.Need-returns
 returns c =
     let p = c .before .before in
     let s = p .before .before in
-    sym (more-than-shares (s .args .sheet .now) (s .pre) (s .args .lot) (p .spare .result) (p .spare .ensures) (rw (c .before .sum-of .ensures) at (c .if1 .taken)))
+    sym (more-than-shares (s .args .sheet .now) (s .args .lot) (p .spare .result) (p .spare .ensures) (rw (c .before .sum-of .ensures) at (c .if1 .taken)))
 
 shared-slice-read-if2 : tie.Need-shared-slice-read-if2
 shared-slice-read-if2 c =
@@ -30,7 +30,7 @@ returns-2 c =
     let h = o .before .held-by-office in
     let p = o .before .before .before .before in
     let s = p .before .before in
-    sym (below-share (s .args .sheet .now) (s .pre) (s .args .lot) (p .spare .result) (p .spare .ensures) (h .result) (h .ensures) (rw (o .office-of .ensures) at (c .if2 .taken)))
+    sym (below-share (s .args .sheet .now) (s .args .lot) (p .spare .result) (p .spare .ensures) (h .result) (h .ensures) (rw (o .office-of .ensures) at (c .if2 .taken)))
 
 all-lacking-requires : tie.Need-all-lacking-requires
 all-lacking-requires c κs =
@@ -43,7 +43,7 @@ returns-3 c =
     let h = o .before .held-by-office in
     let p = o .before .before .before .before in
     let s = p .before .before in
-    by-spare (s .args .sheet .now) (s .pre) (s .args .lot) (p .spare .result) (p .spare .ensures) (h .result) (h .ensures) (rw (o .office-of .ensures) at (c .before .before .if2 .left)) (c .all-lacking .result) (c .all-lacking .ensures)
+    by-spare (s .args .sheet .now) (s .args .lot) (p .spare .result) (p .spare .ensures) (h .result) (h .ensures) (rw (o .office-of .ensures) at (c .before .before .if2 .left)) (c .all-lacking .result) (c .all-lacking .ensures)
 
 -- an office is one of sixteen
 office-small : tie.Need-mul-if2

@@ -2,7 +2,7 @@
 use native.Mathlib.Omega.{arith}
 use borrow.Author.Needs.{needs}
 use Rattle.sheetmodel.specs.Layout.{next-unused}
-use Rattle.sheet.proofs.OfficeSteps.{sized-its, can-free}
+use Rattle.sheet.proofs.OfficeSteps.{sized-its, can-free, depth-is}
 use Rattle.sheet.proofs.offices.spare.Statement.{statement}
 use Rattle.sheet.proofs.offices.spare.Tie as tie
 
@@ -18,6 +18,11 @@ sub-unused c = let s = c .before .before .before in omega (arith, c .before .rec
 depth-of-requires : tie.Need-depth-of-requires
 depth-of-requires c κs = let s = c .before .before .before in can-free (s .args .sheet .now) (s .pre)
 
+returns : tie.Need-returns
+returns c =
+    let s = c .before .before .before .before in
+    omega (arith, c .depth-of .ensures, depth-is (s .args .sheet .now) (s .pre), c .before .before .record-count .ensures)
+
 pub spare-spec : {M : Type 1} → statement M
 spare-spec =
     tie.close
@@ -29,4 +34,4 @@ spare-spec =
     depth-of-requires
     (λ c. search needs)
     (λ c. search needs)
-    (λ c. search needs))
+    returns)

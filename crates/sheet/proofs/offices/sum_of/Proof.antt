@@ -1,8 +1,7 @@
 -- `sheet::sum_of` meets its contract. The loop's invariant: the sum of the words so far. Assumes nothing.
-use Prim.Native.Nat.{ℕ, _+_, _-_, _*_, _≤_}
-use mathlib.Core.Path.{_≡_, _∙_}
+use Prim.Native.Nat.{_+_, _-_, _*_, _≤_}
+use mathlib.Core.Path.{_≡_}
 use native.Mathlib.Omega.{arith}
-use borrow.Author.Needs.{needs}
 use Rattle.sheetmodel.specs.Layout.{largest, word, offices}
 use Rattle.sheetmodel.specs.Offices.{added-up}
 use Rattle.sheet.proofs.OfficeSteps.{one-more, no-words}

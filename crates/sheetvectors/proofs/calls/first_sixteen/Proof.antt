@@ -1,7 +1,6 @@
 -- `sheetvectors::first_sixteen` ends, and its indexes are within bounds. Assumes nothing.
 use Prim.Native.Nat.{_-_, _≤_}
 use native.Mathlib.Omega.{arith}
-use borrow.Author.Needs.{needs}
 use Rattle.sheetvectors.proofs.calls.first_sixteen.Statement.{statement}
 use Rattle.sheetvectors.proofs.calls.first_sixteen.Tie as tie
 
