@@ -53,9 +53,11 @@ class Manual(unittest.TestCase):
     def test_limits(self):
         before = run(PROGRAM, input="t\no 7\np 5 2 3 1\np 5 2 3 1 3\n")
         self.assertEqual(before.stdout, "no 3\nno 3\nno 16\nno 2\n")
-        opens = "".join(f"o {lot}\n" for lot in range(1, 4083))
-        full = run(PROGRAM, input="p 5 2 3 1 2\n" + opens)
-        self.assertEqual(full.stdout, "ok\n" * 4082 + "no 11\n")
+        # Lots of all offices, and of one alone: no office has a share.
+        for step in (1, 16):
+            opens = "".join(f"o {step * lot}\n" for lot in range(1, 4083))
+            full = run(PROGRAM, input="p 5 2 3 1 2\n" + opens)
+            self.assertEqual(full.stdout, "ok\n" * 4082 + "no 11\n")
         long = run(PROGRAM, input=f"t{' ' * 300}\no 1")
         self.assertEqual((long.returncode, long.stdout), (0, "no 16\nno 3\n"))
 
