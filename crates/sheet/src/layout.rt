@@ -29,8 +29,6 @@ pub const SHARES_START: usize = 44;
 
 pub const OFFICES: usize = 16;
 
-pub const HEADER_SIZE: usize = 60;
-
 // the first record after the header
 pub const FIRST_RECORD: u32 = 15;
 
