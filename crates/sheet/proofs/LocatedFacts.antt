@@ -16,12 +16,12 @@ use Rattle.sheet.specs.declared.locating.Located.the-variants.{Refused, 
 use Rattle.sheetmodel.specs.Layout.{size-ok, share, first-record}
 use Rattle.sheetmodel.specs.Contents.{Lot, Contents, find, records-of}
 use Rattle.sheetmodel.specs.Offices.{shares-fit}
-use Rattle.sheetmodel.specs.Read.{read, read-from}
+use Rattle.sheetmodel.specs.Read.{then, read, read-from}
 use Rattle.sheetmodel.specs.Rows.{is-some, lot-rows}
-use Rattle.sheetmodel.specs.Calls.{standing, sheet-rows, last-below}
+use Rattle.sheetmodel.specs.Calls.{contents, standing, sheet-rows, last-below}
 use Rattle.sheet.specs.Survey.{found, survey-of}
 use Rattle.sheet.specs.Locating.{found-on, located}
-use Rattle.sheet.specs.Sharing.{Whole-sheet}
+use Rattle.sheet.specs.Sharing.{Whole-sheet, Held-by, Counted}
 use Rattle.sheetmodel.proofs.ForSheet.{some-value, some-lot}
 use Rattle.sheet.proofs.Requires.{lot-after-header}
 
@@ -107,6 +107,14 @@ module _ (n : ℕ) (w : List ℕ) where
       go (some s) r e =
           let same : found n (find n (s .lots)) (last-below n 0 (s .lots)) (records-of (s .lots)) ≡ f = cc in
           finding n w [] f (all-behind w s z r [] tt) (rw r same)
+
+  -- what the survey counted is what the offices hold of the sheet
+  pub counted-on : (f : Found) (h : List ℕ) → shares-fit (share w) w ≡ true → Counted (Intact f) (then (read-from first-record w) (λ s. some (s .lots))) h → Held-by (contents w .lots) h
+  counted-on f h u c = go (read w) refl (rw (← fitting u) at c)
+    where
+      go : (o : Option Contents) → read w ≡ o → (ls : List Lot) × (then o (λ s. some (s .lots)) ≡ some ls) × Held-by ls h → Held-by (contents w .lots) h
+      go none r k = let e = k .1 in let z : _≡_ {A = ℕ} 0 1 = cc in absurd (omega arith)
+      go (some s) r k = let e = k .1 in let same : k .0 ≡ s .lots = cc in rw (r, ← same) (k .2)
 
   -- ---- what follows
 

@@ -3,7 +3,7 @@ use Prim.Native.Nat.{ℕ, zero, suc, _-_, _≤_, _<_}
 use mathlib.Core.Path.{_≡_, refl, sym, ap, _∙_}
 use mathlib.Core.Bool.{Bool, true, false, cond}
 use mathlib.Core.Option.{Option, none, some}
-use mathlib.Core.List.{List, _∷_}
+use mathlib.Core.List.{List, [], _∷_}
 use native.Mathlib.Omega.{arith}
 use native.Mathlib.Decide.{decLt}
 use lib.ListN.{length}
@@ -24,7 +24,7 @@ use Rattle.sheetmodel.specs.Layout.{word, field, next, newest, next-unused}
 use Rattle.sheetmodel.specs.Contents.{Inspection, Lot, classes}
 use Rattle.sheetmodel.specs.Read.{guard, then, in-use, serial-at, read-inspections, read-lots, undecided-before}
 use Rattle.sheet.specs.Survey.{record-at, is-lot, tested, chain-of, with-lot-found, lots-survey}
-use Rattle.sheetmodel.proofs.ForSheet.{length-classes, fact, sound-inspections, is-history}
+use Rattle.sheetmodel.proofs.ForSheet.{length-classes, units-of, fact, sound-inspections, is-history}
 use Rattle.sheet.proofs.ChainSteps.{ended, not-ended, cut-here, whole-units}
 use Rattle.sheet.proofs.Tested.{same-test}
 
@@ -92,6 +92,15 @@ abbrev pub after-chain : List Stage → ℕ → Found → ℕ → ℕ → Chain 
 after-chain p n f at number chain.Corrupt rest = Corrupt
 after-chain p n f at number (Whole c k) rest = lots-survey p n (with-lot-found n f at number c k) rest
 
+-- a whole chain was read, and has as many inspections as units
+chain-read : (test : List Inspection → Bool) (o : Option (List Inspection)) (c : Counts) (k : ℕ) → chain-of test o ≡ Whole c k → (is : List Inspection) × (o ≡ some is) × (length is ≡ units c)
+chain-read test none c k e = absurd (let z : _≡_ {A = ℕ} 0 1 = cc in omega arith)
+chain-read test (some is) c k e = go (test is) e
+  where
+    go : (b : Bool) → cond b (Whole (counts (classes is)) (blanks (classes is))) chain.Corrupt ≡ Whole c k → (js : List Inspection) × (some is ≡ some js) × (length js ≡ units c)
+    go true f = let same : counts (classes is) ≡ c = cc in (is, refl, sym (units-of is) ∙ ap units same)
+    go false f = absurd (let z : _≡_ {A = ℕ} 0 1 = cc in omega arith)
+
 one-lot : (p : List Stage) (n : ℕ) (f : Found) (at number : ℕ) (o : Option (List Inspection)) (rest : Option (List Lot))
     → lots-survey p n f (then o (λ is. then rest (λ ls. some (record { at = at; number = number; inspections = is } ∷ ls)))) ≡ after-chain p n f at number (chain-of (undecided-before p) o) rest
 one-lot p n f at number none rest = refl
@@ -104,6 +113,35 @@ one-lot p n f at number (some is) rest = go (undecided-before p is) refl rest
     go true e (some ls) = rw e
     go false e (some ls) = rw e
 
+module _ (first : ℕ) (w : List ℕ) where
+  step : (left above at : ℕ) → 0 < left → (at ≡ 0 → ⊥) → read-lots first w left above at ≡
+      guard (is-lot first w above at) (λ ok. then (read-inspections first w at (serial-at w (newest w at)) (newest w at)) (λ is.
+      then (read-lots first w (left - 1) (field w at 0) (next w at)) (λ ls. some (record { at = at; number = field w at 0; inspections = is } ∷ ls))))
+  unfolding read-lots
+  step zero above at l z = absurd (omega arith)
+  step (suc left) above at l z = let m : suc left - 1 ≡ left = omega arith in rw (ne-eqb at 0 z, m)
+
+  -- where no lot is left, none is read
+  pub no-lots : (left above at : ℕ) → at ≡ 0 → read-lots first w left above at ≡ some []
+  unfolding read-lots
+  no-lots zero above at e = rw (eq-eqb at 0 e)
+  no-lots (suc left) above at e = rw (eq-eqb at 0 e)
+
+  -- a lot, in the record r, whose chain is whole stands before the lots that are read after it
+  pub lot-read : (p : List Stage) (left above at : ℕ) → 0 < left → (at ≡ 0 → ⊥) → is-lot first w above at ≡ true → (r : Record) → r ≡ record-at w at
+      → (c : Counts) (k : ℕ) → Whole c k ≡ chain-of (undecided-before p) (read-inspections first w at (serial-at w (r .link)) (r .link))
+      → (ls : List Lot) → read-lots first w (left - 1) (r .value) (r .next) ≡ some ls
+      → (l : Lot) × (read-lots first w left above at ≡ some (l ∷ ls)) × (l .number ≡ r .value) × (length (l .inspections) ≡ units c)
+  lot-read p left above at l z e r g c k h ls later =
+      let is = chain-read (undecided-before p) (read-inspections first w at (serial-at w (r .link)) (r .link)) c k (sym h) in
+      let read = sym (ap (λ (q : Record). read-inspections first w at (serial-at w (q .link)) (q .link)) g) ∙ is .1 in
+      rw g (go (is .0) read (is .2) (rw g at later))
+    where
+      go : (is : List Inspection) → read-inspections first w at (serial-at w (newest w at)) (newest w at) ≡ some is → length is ≡ units c
+          → read-lots first w (left - 1) (field w at 0) (next w at) ≡ some ls
+          → (l : Lot) × (read-lots first w left above at ≡ some (l ∷ ls)) × (l .number ≡ field w at 0) × (length (l .inspections) ≡ units c)
+      go is read count later = (record { at = at; number = field w at 0; inspections = is }, rw (step left above at l z, e, read, later) refl, refl, count)
+
 module _ (first : ℕ) (w : List ℕ) (p : List Stage) (n : ℕ) (f : Found) where
   pub no-lot : (left above at : ℕ) → at ≡ 0 → lots-survey p n f (read-lots first w left above at) ≡ Intact f
   unfolding read-lots
@@ -114,20 +152,13 @@ module _ (first : ℕ) (w : List ℕ) (p : List Stage) (n : ℕ) (f : Found) whe
   unfolding read-lots
   none-left left above at e z = rw (e, ne-eqb at 0 z)
 
-  step : (left above at : ℕ) → 0 < left → (at ≡ 0 → ⊥) → read-lots first w left above at ≡
-      guard (is-lot first w above at) (λ ok. then (read-inspections first w at (serial-at w (newest w at)) (newest w at)) (λ is.
-      then (read-lots first w (left - 1) (field w at 0) (next w at)) (λ ls. some (record { at = at; number = field w at 0; inspections = is } ∷ ls))))
-  unfolding read-lots
-  step zero above at l z = absurd (omega arith)
-  step (suc left) above at l z = let m : suc left - 1 ≡ left = omega arith in rw (ne-eqb at 0 z, m)
-
   pub not-lot : (left above at : ℕ) → 0 < left → (at ≡ 0 → ⊥) → is-lot first w above at ≡ false → lots-survey p n f (read-lots first w left above at) ≡ Corrupt
-  not-lot left above at l z e = rw (step left above at l z, e)
+  not-lot left above at l z e = rw (step first w left above at l z, e)
 
   -- r is the lot's record, and v what its inspections gave
   pub next-lot : (left above at : ℕ) → 0 < left → (at ≡ 0 → ⊥) → is-lot first w above at ≡ true → (r : Record) → r ≡ record-at w at
       → (v : Chain) → v ≡ chain-of (undecided-before p) (read-inspections first w at (serial-at w (r .link)) (r .link))
       → lots-survey p n f (read-lots first w left above at) ≡ after-chain p n f at (r .value) v (read-lots first w (left - 1) (r .value) (r .next))
   next-lot left above at l z e r g v h =
-      rw (step left above at l z, e, h, g)
+      rw (step first w left above at l z, e, h, g)
       (one-lot p n f at (field w at 0) (read-inspections first w at (serial-at w (newest w at)) (newest w at)) (read-lots first w (left - 1) (field w at 0) (next w at)))

@@ -1,24 +1,24 @@
 -- The offices' records counted lot by lot, sums over offices, and the rule by what was counted. Assumes nothing.
-use Prim.Native.Nat.{ℕ, suc, _+_, _-_, _*_, _≤_, _<_}
+use Prim.Native.Nat.{ℕ, suc, _+_, _-_, _≤_, _<_}
 use mathlib.Core.Path.{_≡_, refl, sym, ap, _∙_}
 use mathlib.Core.Logic.{_≢_}
-use mathlib.Core.Bool.{Bool, true, false, cond, or-true}
-use mathlib.Core.Option.{some}
+use mathlib.Core.Bool.{Bool, true, false, cond}
+use mathlib.Core.Option.{Option, some}
 use mathlib.Core.List.{List, [], _∷_}
 use native.Mathlib.Omega.{arith}
 use lib.ListN.{length, set, replicate, length-set, getD-replicate}
 use lib.Dec.{ltb, eqb}
-use borrow.Author.Tests.{lt-ltb, le-ltb, eq-eqb, ne-eqb, eqb-true, eqb-false}
-use Rattle.sheetmodel.specs.Layout.{largest, word, field, next, newest, records, next-unused, first-lot, first-record, offices, share}
-use Rattle.sheetmodel.specs.Contents.{Inspection, Lot, Contents}
-use Rattle.sheetmodel.specs.Holds.{Inspections, Lots, Holds}
+use borrow.Author.Tests.{lt-ltb, le-ltb, eqb-true, eqb-false}
+use Rattle.sheetmodel.specs.Layout.{word, records, next-unused, first-record, offices, share}
+use Rattle.sheetmodel.specs.Contents.{Lot, Contents}
+use Rattle.sheetmodel.specs.Holds.{Holds}
 use Rattle.sheetmodel.specs.Offices.{office, added-up, held, lacking, all-lacking, others-lacking, spare, may-take}
-use Rattle.sheetmodel.specs.Read.{read, serial-at, depth}
+use Rattle.sheetmodel.specs.Read.{read, depth}
 use Rattle.sheetmodel.specs.Calls.{contents}
 use Rattle.sheet.specs.Survey.{Sized}
-use Rattle.sheet.specs.Writes.{In-words, Freeing}
-use Rattle.sheet.specs.Sharing.{Whole-sheet, Held-by}
-use Rattle.sheetmodel.proofs.ForSheet.{some-value, serials, depths, held-bound, an-office, others-and-own, sum-most, sum-same, word-set, word-set-here}
+use Rattle.sheet.specs.Writes.{Freeing}
+use Rattle.sheet.specs.Sharing.{Whole-sheet, Held-by, with-lot-held}
+use Rattle.sheetmodel.proofs.ForSheet.{some-value, depths, an-office, others-and-own, sum-same, word-set, word-set-here}
 use Rattle.sheet.proofs.Requires.{holds, sized, freeing}
 
 -- ---- sums over offices
@@ -55,104 +55,59 @@ module _ (w : List ℕ) (k : Whole-sheet w) where
 
 -- ---- the lots, one after the other
 
--- h has what the offices hold of the lots before the record `at`; those from there on are left to count
-pub record Counting (w : List ℕ) (ls : List Lot) (h : List ℕ) (at : ℕ) : Type 0 where
-  pub rest : List Lot
-  pub above : ℕ
-  pub chain : Lots first-record w (word w next-unused) above rest at
+-- h has what each office holds of the lots read before those left, and no more than all records used by them
+pub record Counting (all left : Option (List Lot)) (h : List ℕ) (used : ℕ) : Type 0 where
   pub sixteen : length h ≡ offices
-  pub so-far : (o : ℕ) → o < offices → word h o + held rest o ≡ held ls o
+  pub few : (o : ℕ) → o < offices → word h o ≤ used
+  pub so-far : (rest : List Lot) → left ≡ some rest → (ls : List Lot) × (all ≡ some ls) × ((o : ℕ) → o < offices → word h o + held rest o ≡ held ls o)
 
-pub count-start : (w : List ℕ) → Whole-sheet w → Counting w (contents w .lots) (replicate offices 0) (word w first-lot)
-count-start w k = record {
-  rest = contents w .lots;
-  above = 0;
-  chain = holds-its w k .lots;
+pub count-start : (all : Option (List Lot)) → Counting all all (replicate offices 0) 0
+count-start all = record {
   sixteen = refl;
-  so-far = λ o b. omega (arith, getD-replicate {A = ℕ} offices o 0 0 b);
+  few = λ o b. omega (arith, getD-replicate {A = ℕ} offices o 0 0 b);
+  so-far = λ rest e. (rest, e, λ o b. omega (arith, getD-replicate {A = ℕ} offices o 0 0 b));
 }
 
--- how far the walk is from its end: the numbers above that of the lot
-abbrev pub numbers-left : List ℕ → ℕ → ℕ
-numbers-left w at = cond (eqb at 0) 0 (largest + 1 - field w at 0)
-
--- the lot in the record `at`: where it and its newest inspection lie, and what counting it leaves
-pub record Counted (w : List ℕ) (ls : List Lot) (h : List ℕ) (at : ℕ) : Type 0 where
-  pub inside : In-words w at
-  pub newest-inside : In-words w (newest w at)
-  pub fits : word h (office (field w at 0)) + (1 + serial-at w (newest w at)) ≤ largest
-  pub more : Counting w ls (set h (office (field w at 0)) (word h (office (field w at 0)) + (1 + serial-at w (newest w at)))) (next w at)
-  pub less : numbers-left w (next w at) < numbers-left w at
-
-module _ (w : List ℕ) (k : Whole-sheet w) (small : (i : ℕ) → word w i ≤ largest) where
-  abbrev its-lots : List Lot
-  its-lots = contents w .lots
-
-  abbrev hi : ℕ
-  hi = word w next-unused
-
-  newest-in : (lot at : ℕ) (is : List Inspection) → Inspections first-record w hi lot is at → In-words w at
-  newest-in lot at [] c = omega (arith, sized-its w k .long)
-  newest-in lot at (i ∷ is) c = omega (arith, c .0 .here, c .0 .high, holds-its w k .room)
-
-  -- the next lot has a higher number
-  falls : (n at : ℕ) (ls : List Lot) → n ≤ largest → Lots first-record w hi n ls at → numbers-left w at < largest + 1 - n
-  falls n at [] b c = rw (eq-eqb at 0 c) (omega arith)
-  falls n at (l ∷ ls) b c =
-      let x = c .0 in
-      let at-is : at ≢ 0 = λ e. omega (arith, x .here, x .low) in
-      rw (ne-eqb at 0 at-is, x .here, x .numbered) (omega (arith, x .rises))
-
-  -- the records of one lot more
-  with-records : (h : List ℕ) (l : Lot) (ls : List Lot) → length h ≡ offices → (a : ℕ) →
-      word (set h (office (l .number)) (word h (office (l .number)) + (1 + length (l .inspections)))) a + held ls a ≡ word h a + held (l ∷ ls) a
-  with-records h l ls sixteen a = go (eqb o a) refl
-    where
-      o : ℕ
-      o = office (l .number)
-
-      v : ℕ
-      v = word h o + (1 + length (l .inspections))
-
-      go : (t : Bool) → eqb o a ≡ t → word (set h o v) a + held ls a ≡ word h a + (cond t (1 + length (l .inspections)) 0 + held ls a)
-      go true e =
-          let z = eqb-true o a e in
-          let b : o < length h = omega (arith, an-office (l .number)) in
-          rw (← z) (omega (arith, word-set-here h o v b))
-      go false e = let d : a ≢ o = λ z. eqb-false o a e (sym z) in omega (arith, word-set h o a v d)
-
-  pub count-one : (h : List ℕ) (at : ℕ) → Counting w its-lots h at → at ≢ 0 → Counted w its-lots h at
-  count-one h at c d = go (c .rest) (c .chain) (c .so-far)
-    where
-      go : (rest : List Lot) → Lots first-record w hi (c .above) rest at → ((o : ℕ) → o < offices → word h o + held rest o ≡ held its-lots o) → Counted w its-lots h at
-      go [] chain so-far = absurd (d chain)
-      go (l ∷ ls) chain so-far =
-          let x = chain .0 in
-          let number : field w at 0 ≡ l .number = rw (x .here) (x .numbered) in
-          let inspections : Inspections first-record w hi (l .at) (l .inspections) (newest w at) = rw (x .here) (chain .1) in
-          let count : serial-at w (newest w at) ≡ length (l .inspections) = serials first-record (omega arith) w (l .at) (newest w at) (l .inspections) inspections in
-          let o = office (l .number) in
-          let own : word h o + (1 + length (l .inspections) + held ls o) ≡ held its-lots o = rw (eq-eqb o o refl) at (so-far o (an-office (l .number))) in
-          record {
-            inside = omega (arith, x .here, x .high, holds-its w k .room);
-            newest-inside = newest-in (l .at) (newest w at) (l .inspections) inspections;
-            fits = rw (number, count) (omega (arith, held-bound its-lots o, holds-its w k .count, holds-its w k .room, sized-its w k .short));
-            more = rw (number, count) (record {
-              rest = ls;
-              above = l .number;
-              chain = rw (x .here) (chain .2);
-              sixteen = length-set h o _ ∙ c .sixteen;
-              so-far = λ a b. with-records h l ls (c .sixteen) a ∙ so-far a b;
-            });
-            less = rw (ne-eqb at 0 d) (falls (field w at 0) (next w at) ls (small (4 * at + 0)) (rw (number, x .here) (chain .2)));
-          }
-
-pub count-done : (w : List ℕ) (ls : List Lot) (h : List ℕ) (at : ℕ) → Counting w ls h at → at ≡ 0 → Held-by ls h
-count-done w ls h at c z = go (c .rest) (c .chain) (c .so-far)
+-- an office's records with one lot more: those of the lot's office rise, and no others
+with-lot-word : (h : List ℕ) (number n a : ℕ) → length h ≡ offices → word (with-lot-held h number n) a ≡ word h a + cond (eqb (office number) a) (1 + n) 0
+with-lot-word h number n a sixteen = go (eqb o a) refl
   where
-    go : (rest : List Lot) → Lots first-record w (word w next-unused) (c .above) rest at → ((o : ℕ) → o < offices → word h o + held rest o ≡ held ls o) → Held-by ls h
-    go [] chain so-far = record { sixteen = c .sixteen; each = λ o b. omega (arith, so-far o b) }
-    go (l ∷ rest) chain so-far = absurd (omega (arith, chain .0 .here, chain .0 .low))
+    o : ℕ
+    o = office number
+
+    v : ℕ
+    v = word h o + (1 + n)
+
+    go : (t : Bool) → eqb o a ≡ t → word (set h o v) a ≡ word h a + cond t (1 + n) 0
+    go true e =
+        let z = eqb-true o a e in
+        let b : o < length h = omega (arith, an-office number) in
+        rw (← z) (word-set-here h o v b)
+    go false e = let d : a ≢ o = λ z. eqb-false o a e (sym z) in omega (arith, word-set h o a v d)
+
+pub count-one : (all left later : Option (List Lot)) (h : List ℕ) (used number n : ℕ) → Counting all left h used
+    → ((ls : List Lot) → later ≡ some ls → (l : Lot) × (left ≡ some (l ∷ ls)) × (l .number ≡ number) × (length (l .inspections) ≡ n))
+    → Counting all later (with-lot-held h number n) (used + (1 + n))
+count-one all left later h used number n c reads = record {
+  sixteen = length-set h (office number) _ ∙ c .sixteen;
+  few = λ o b. at-most o b (eqb (office number) o) (with-lot-word h number n o (c .sixteen));
+  so-far = λ ls e.
+      let x = reads ls e in
+      let y = c .so-far (x .0 ∷ ls) (x .1) in
+      (y .0, y .1, λ o b. with-own o ls (x .0) (x .2) (x .3) ∙ y .2 o b);
+}
+  where
+    at-most : (o : ℕ) → o < offices → (t : Bool) → word (with-lot-held h number n) o ≡ word h o + cond t (1 + n) 0 → word (with-lot-held h number n) o ≤ used + (1 + n)
+    at-most o b true e = omega (arith, c .few o b)
+    at-most o b false e = omega (arith, c .few o b)
+
+    with-own : (o : ℕ) (ls : List Lot) (l : Lot) → l .number ≡ number → length (l .inspections) ≡ n → word (with-lot-held h number n) o + held ls o ≡ word h o + held (l ∷ ls) o
+    with-own o ls l e f = rw (e, f) (omega (arith, with-lot-word h number n o (c .sixteen)))
+
+pub count-done : (all left : Option (List Lot)) (h : List ℕ) (used : ℕ) → Counting all left h used → left ≡ some [] → (ls : List Lot) × (all ≡ some ls) × Held-by ls h
+count-done all left h used c e =
+    let y = c .so-far [] e in
+    (y .0, y .1, record { sixteen = c .sixteen; each = λ o b. omega (arith, y .2 o b) })
 
 -- ---- the rule
 
@@ -162,14 +117,6 @@ module _ (w : List ℕ) (n left : ℕ) (left-is : left ≡ spare w (contents w))
 
   abbrev lots : List Lot
   lots = contents w .lots
-
-  -- no office lacks more than its share
-  pub more-than-shares : added-up offices (share w) < left → may-take w (contents w) own ≡ true
-  unfolding may-take
-  more-than-shares b =
-      let few = sum-most offices (lacking w lots) (share w) (λ o. omega arith) in
-      let c : others-lacking w lots own < spare w (contents w) = omega (arith, others-and-own w lots own (an-office n)) in
-      rw (lt-ltb (others-lacking w lots own) (spare w (contents w)) c) (or-true (ltb (held lots own) (share w own)))
 
   module _ (h : List ℕ) (counted : Held-by lots h) where
     held-is : word h own ≡ held lots own

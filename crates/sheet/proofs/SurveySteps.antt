@@ -19,11 +19,12 @@ use Rattle.sheet.specs.declared.survey.Found.{Found}
 use Rattle.sheet.specs.declared.survey.Surveyed.{Surveyed}
 use Rattle.sheet.specs.declared.survey.Surveyed.the-variants.{Corrupt, Intact}
 use Rattle.sheetmodel.specs.Layout.{word, records, next-unused, first-lot, first-free, plan-words}
-use Rattle.sheetmodel.specs.Contents.{Lot, history, records-of, find}
+use Rattle.sheetmodel.specs.Contents.{Lot, Contents, history, records-of, find}
 use Rattle.sheetmodel.specs.Holds.{Lots}
 use Rattle.sheetmodel.specs.Read.{guard, then, depth, read-lots, read-free, all-undecided-before, header-ok, contents-ok, read-from}
 use Rattle.sheetmodel.specs.Calls.{last-below}
 use Rattle.sheet.specs.Survey.{found-from, nothing-found, lots-survey, free-of, found, survey-of}
+use Rattle.sheet.specs.Sharing.{Counted}
 use Rattle.sheetmodel.proofs.ForSheet.{units-of, sound-lots, find-above}
 
 -- ---- what is found
@@ -140,3 +141,29 @@ module _ (first : ℕ) (w : List ℕ) (n : ℕ) where
   pub by-code : header-ok first w ≡ true → (v : Surveyed) → v ≡ lots-survey p n nothing-found (read-lots first w (records w) 0 (word w first-lot))
       → (k : FreeChain) → k ≡ free-of (read-free first w (depth w) (word w first-free)) → by-walks first w v k ≡ survey-of n (read-from first w)
   by-code e v f k g = ap₂ (by-walks first w) f g ∙ sym (by-header e)
+
+  -- ---- what the offices hold
+
+  lots-of : (s : Contents) → read-from first w ≡ some s → read-lots first w (records w) 0 (word w first-lot) ≡ some (s .lots)
+  unfolding read-from
+  lots-of s = go (header-ok first w) (read-lots first w (records w) 0 (word w first-lot)) (read-free first w (depth w) (word w first-free)) (contents-ok first w)
+    where
+      go : (b : Bool) (L : Option (List Lot)) (F : Option (List ℕ)) (test : Contents → Bool)
+          → guard b (λ ok. then L (λ ls. then F (λ js. guard (test (record { lots = ls; free = js })) (λ ok. some (record { lots = ls; free = js }))))) ≡ some s → L ≡ some (s .lots)
+      go false L F test e = let z : _≡_ {A = ℕ} 0 1 = cc in absurd (omega arith)
+      go true none F test e = let z : _≡_ {A = ℕ} 0 1 = cc in absurd (omega arith)
+      go true (some ls) none test e = let z : _≡_ {A = ℕ} 0 1 = cc in absurd (omega arith)
+      go true (some ls) (some js) test e = tested (test (record { lots = ls; free = js })) e
+        where
+          tested : (b : Bool) → guard b (λ ok. some (record { lots = ls; free = js })) ≡ some s → some ls ≡ some (s .lots)
+          tested false e = let z : _≡_ {A = ℕ} 0 1 = cc in absurd (omega arith)
+          tested true e = let same : record { lots = ls; free = js } ≡ s = cc in ap (λ (t : Contents). some (t .lots)) same
+
+  -- what was counted of the lots is what the offices hold of a sheet that is read
+  pub counted-whole : (f : Found) (h : List ℕ) → survey-of n (read-from first w) ≡ Intact f → Counted (Intact f) (read-lots first w (records w) 0 (word w first-lot)) h
+      → Counted (Intact f) (then (read-from first w) (λ s. some (s .lots))) h
+  counted-whole f h e c = go (read-from first w) refl e
+    where
+      go : (o : Option Contents) → read-from first w ≡ o → survey-of n o ≡ Intact f → Counted (Intact f) (then o (λ s. some (s .lots))) h
+      go none r e = let z : _≡_ {A = ℕ} 0 1 = cc in absurd (omega arith)
+      go (some s) r e = (c .0, sym (lots-of s r) ∙ c .1, c .2)

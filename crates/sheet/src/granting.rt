@@ -9,9 +9,9 @@ ghost use mathlib.Core.Path.{_≡_};
 ghost use Prim.Native.Nat.{_≤_};
 ghost use lib.ListN.{length};
 ghost use Rattle.sheetmodel.specs.Rows.{record-rows};
-ghost use Rattle.sheetmodel.specs.Calls.{full, held-back, new-record, take-record};
+ghost use Rattle.sheetmodel.specs.Calls.{contents, full, held-back, new-record, take-record};
 ghost use Rattle.sheet.specs.Granting.{grant-by};
-ghost use Rattle.sheet.specs.Sharing.{Whole-sheet};
+ghost use Rattle.sheet.specs.Sharing.{Whole-sheet, Held-by};
 ghost use Rattle.sheet.specs.Writes.{Room};
 ghost use Rattle.sheetmodel.specs.Layout.{least-size};
 
@@ -32,15 +32,15 @@ fn is_full(sheet: &[u32]) -> bool
     record_count(sheet) <= sheet[NEXT_UNUSED] as usize
 }
 
-// The rows about a record that is needed for a lot.
-pub fn grant_record(sheet: &[u32], lot: u32) -> Grant
-    requires { ⌜ Whole-sheet (now sheet) ⌝ }
+// The rows about a record that is needed for a lot, by what each office holds.
+pub fn grant_record(sheet: &[u32], held: &[u32; 16], lot: u32) -> Grant
+    requires { ⌜ Whole-sheet (now sheet) × Held-by (contents (now sheet) .lots) (now held) ⌝ }
     ensures { λ r. ⌜ r ≡ grant-by (record-rows (full (now (sheet .entry))) (held-back lot (now (sheet .entry)))) ⌝ }
 {
     if is_full(sheet) {
         return Grant::Refused(11);
     }
-    if !may_take(sheet, lot) {
+    if !may_take(sheet, held, lot) {
         return Grant::Refused(19);
     }
     Grant::Record

@@ -1,23 +1,19 @@
 // Offices and their shares of the records: which shares a sheet may have, and whether a record may be taken.
 // Document 02, change 7.
 use crate::freeing::depth_of;
-use crate::layout::FIRST_LOT;
 use crate::layout::FIRST_RECORD;
 use crate::layout::NEXT_UNUSED;
 use crate::layout::OFFICES;
 use crate::layout::SHARES_START;
-use crate::record::field_of;
-use crate::record::record_at;
 use crate::record::record_count;
 ghost use mathlib.Core.Path.{_≡_};
-ghost use Prim.Native.Nat.{_+_, _-_, _*_, _≤_, _<_};
+ghost use Prim.Native.Nat.{_+_, _-_, _≤_};
 ghost use lib.ListN.{length};
 ghost use lib.Dec.{leb};
-ghost use Rattle.sheetmodel.specs.Layout.{least-size, greatest-size, word, records, first-record, offices, share};
+ghost use Rattle.sheetmodel.specs.Layout.{largest, least-size, greatest-size, word, records, first-record, offices, share};
 ghost use Rattle.sheetmodel.specs.Offices.{office, added-up, shares-fit, spare, may-take};
-ghost use Rattle.sheetmodel.specs.Read.{serial-at};
 ghost use Rattle.sheetmodel.specs.Calls.{contents};
-ghost use Rattle.sheet.specs.Sharing.{Whole-sheet, Held-by};
+ghost use Rattle.sheet.specs.Sharing.{Whole-sheet, Held-by, with-lot-held};
 
 // Sixteen words, from the word `from` on, added up.
 fn sum_of(words: &[u32], from: usize) -> u64
@@ -63,31 +59,13 @@ fn office_of(lot: u32) -> usize
     lot as usize % OFFICES
 }
 
-// How many inspections a chain has, by the serial of its newest one (0: none).
-fn inspection_count(sheet: &[u32], newest: u32) -> u32
-    requires { ⌜ (4 * newest + 3 < length (now sheet)) × (length (now sheet) ≤ greatest-size) ⌝ }
-    ensures { λ r. ⌜ r ≡ serial-at (now (sheet .entry)) newest ⌝ }
+// Counts a lot and its inspections for its office.
+pub fn count_lot(held: &mut [u32; 16], lot: u32, inspections: u32)
+    requires { ⌜ (length (now held) ≡ offices) × (word (now held) (office lot) + (1 + inspections) ≤ largest) ⌝ }
+    ensures { λ _. ⌜ now (held .exit) ≡ with-lot-held (now (held .entry)) lot inspections ⌝ }
 {
-    if newest == 0 {
-        return 0;
-    }
-    field_of(sheet, newest, 3)
-}
-
-// The records that each office holds: its lots and their inspections.
-fn held_by_office(sheet: &[u32]) -> [u32; 16]
-    requires { ⌜ Whole-sheet (now sheet) ⌝ }
-    ensures { λ r. ⌜ Held-by (contents (now (sheet .entry)) .lots) r ⌝ }
-{
-    let mut held = [0u32; 16];
-    let mut at = sheet[FIRST_LOT];
-    while at != 0 {
-        let r = record_at(sheet, at);
-        let o = office_of(r.value);
-        held[o] = held[o] + (1 + inspection_count(sheet, r.link));
-        at = r.next;
-    }
-    held
+    let o = office_of(lot);
+    held[o] = held[o] + (1 + inspections);
 }
 
 // What an office lacks to reach its share, not below 0.
@@ -123,20 +101,16 @@ fn spare(sheet: &[u32]) -> u64
     depth_of(sheet) as u64 + unused
 }
 
-// May the office of a lot take a record? Where more records are left than all shares add to, it may, and no
-// lot need be asked. An office that has its share lacks nothing, so that all lack what the others lack.
-pub fn may_take(sheet: &[u32], lot: u32) -> bool
-    requires { ⌜ Whole-sheet (now sheet) ⌝ }
+// May the office of a lot take a record? An office that has its share lacks nothing, so that all lack what the
+// others lack.
+pub fn may_take(sheet: &[u32], held: &[u32; 16], lot: u32) -> bool
+    requires { ⌜ Whole-sheet (now sheet) × Held-by (contents (now sheet) .lots) (now held) ⌝ }
     ensures { λ r. ⌜ r ≡ may-take (now (sheet .entry)) (contents (now (sheet .entry))) (office lot) ⌝ }
 {
     let left = spare(sheet);
-    if sum_of(sheet, SHARES_START) < left {
-        return true;
-    }
-    let held = held_by_office(sheet);
     let o = office_of(lot);
     if held[o] < sheet[SHARES_START + o] {
         return true;
     }
-    all_lacking(sheet, &held) < left
+    all_lacking(sheet, held) < left
 }

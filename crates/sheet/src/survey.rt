@@ -1,5 +1,5 @@
-// One walk over a sheet: is it intact, and where is the lot of a number? `first` is the first record after
-// the header.
+// One walk over a sheet: is it intact, where is the lot of a number, and what does each office hold? `first`
+// is the first record after the header.
 use crate::chain::Chain;
 use crate::chain::FreeChain;
 use crate::chain::free_chain;
@@ -9,19 +9,22 @@ use crate::header::header_ok;
 use crate::header::plan_of;
 use crate::layout::FIRST_LOT;
 use crate::layout::NEXT_UNUSED;
+use crate::offices::count_lot;
 use crate::record::record_at;
 use crate::record::record_count;
 use plan::Counts;
 ghost use mathlib.Core.Path.{_≡_};
 ghost use mathlib.Core.Bool.{true};
+ghost use mathlib.Core.Option.{some};
 ghost use Prim.Native.Nat.{_+_, _≤_};
-ghost use lib.ListN.{length};
+ghost use lib.ListN.{length, replicate};
 ghost use lib.Dec.{eqb};
 ghost use Rattle.plan.specs.Plan.{stages, admitted};
 ghost use Rattle.plan.specs.Counts.{units};
-ghost use Rattle.sheetmodel.specs.Layout.{least-size, greatest-size, next-unused, first-lot, word, records};
-ghost use Rattle.sheetmodel.specs.Read.{read-from, read-lots};
+ghost use Rattle.sheetmodel.specs.Layout.{least-size, greatest-size, next-unused, first-lot, word, records, offices};
+ghost use Rattle.sheetmodel.specs.Read.{then, read-from, read-lots};
 ghost use Rattle.sheet.specs.Survey.{Sized, is-lot, with-lot-found, nothing-found, lots-survey, survey-of};
+ghost use Rattle.sheet.specs.Sharing.{Counted};
 
 // What is found for a lot's number: its record, its units and the blanks among them, 0 and none where
 // it is not on the sheet; the record before it, whose next lot it is or would be; and the records that
@@ -74,10 +77,11 @@ fn with_lot_found(sought: u32, f: Found, at: u32, number: u32, c: Counts, blanks
     next
 }
 
-// The lots, and their inspections.
-fn lots(sheet: &[u32], first: u32, plan: &[u32], sought: u32) -> Surveyed
-    requires { ⌜ Sized (now sheet) × (admitted (now plan) ≡ true) ⌝ }
+// The lots and their inspections. `held` takes what each office holds of them.
+fn lots(sheet: &[u32], first: u32, plan: &[u32], sought: u32, held: &mut [u32; 16]) -> Surveyed
+    requires { ⌜ Sized (now sheet) × (admitted (now plan) ≡ true) × (now held ≡ replicate offices 0) ⌝ }
     ensures { λ r. ⌜ r ≡ lots-survey (stages (now (plan .entry))) sought nothing-found (read-lots first (now (sheet .entry)) (records (now (sheet .entry))) 0 (word (now (sheet .entry)) first-lot)) ⌝ }
+    ensures { λ r. ⌜ Counted r (read-lots first (now (sheet .entry)) (records (now (sheet .entry))) 0 (word (now (sheet .entry)) first-lot)) (now (held .exit)) ⌝ }
 {
     let most = plan::sample_size(plan);
     let mut f = Found {
@@ -104,6 +108,7 @@ fn lots(sheet: &[u32], first: u32, plan: &[u32], sought: u32) -> Surveyed
             }
             Chain::Whole(c, blanks) => {
                 f = with_lot_found(sought, f, at, r.value, c, blanks);
+                count_lot(held, r.value, plan::units(c));
                 above = r.value;
                 at = r.next;
                 left -= 1;
@@ -125,14 +130,15 @@ fn count_ok(sheet: &[u32], first: u32, used: u32, free: u32) -> bool
 }
 
 // The survey of a sheet for the lot number that is sought.
-pub fn survey(sheet: &[u32], first: u32, sought: u32) -> Surveyed
-    requires { ⌜ (least-size ≤ length (now sheet)) × (length (now sheet) ≤ greatest-size) ⌝ }
+pub fn survey(sheet: &[u32], first: u32, sought: u32, held: &mut [u32; 16]) -> Surveyed
+    requires { ⌜ (least-size ≤ length (now sheet)) × (length (now sheet) ≤ greatest-size) × (now held ≡ replicate offices 0) ⌝ }
     ensures { λ r. ⌜ r ≡ survey-of sought (read-from first (now (sheet .entry))) ⌝ }
+    ensures { λ r. ⌜ Counted r (then (read-from first (now (sheet .entry))) (λ s. some (s .lots))) (now (held .exit)) ⌝ }
 {
     if !header_ok(sheet, first) {
         return Surveyed::Corrupt;
     }
-    match lots(sheet, first, plan_of(sheet), sought) {
+    match lots(sheet, first, plan_of(sheet), sought, held) {
         Surveyed::Corrupt => Surveyed::Corrupt,
         Surveyed::Intact(f) => match free_chain(sheet, first) {
             FreeChain::Corrupt => Surveyed::Corrupt,

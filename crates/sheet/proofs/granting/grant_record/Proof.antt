@@ -11,7 +11,7 @@ use Rattle.sheet.proofs.granting.grant_record.Statement.{statement}
 use Rattle.sheet.proofs.granting.grant_record.Tie as tie
 
 is-full-requires : tie.Need-is-full-requires
-is-full-requires c κs = sized-its (c .before .args .sheet .now) (c .before .pre) .long
+is-full-requires c κs = sized-its (c .before .args .sheet .now) (c .before .pre .0) .long
 
 returns : tie.Need-returns
 returns c =

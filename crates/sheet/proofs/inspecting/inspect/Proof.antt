@@ -20,20 +20,20 @@ abbrev Place : Type 0
 Place = tie.After-known-told2
 
 abbrev lot-of : Place → ℕ
-lot-of k = k .before .before .before .before .before .before .args .lot
+lot-of k = k .before .before .before .before .before .before .before .args .lot
 
 abbrev class-of : Place → ℕ
-class-of k = k .before .before .before .before .before .before .args .class
+class-of k = k .before .before .before .before .before .before .before .args .class
 
 abbrev words : Place → List ℕ
-words k = k .before .before .before .before .before .before .args .sheet .now
+words k = k .before .before .before .before .before .before .before .args .sheet .now
 
 abbrev found : Place → Found
 found k = k .before .f .given .0 .0
 
 -- and what is known there
 facts : (k : Place) → With-lot (lot-of k) (words k) (found k)
-facts k = with-lot (lot-of k) (words k) (found k) (sym (k .before .before .before .locate-lot .ensures) ∙ k .before .f .given .1)
+facts k = with-lot (lot-of k) (words k) (found k) (sym (k .before .before .before .locate-lot-and-count .ensures .0) ∙ k .before .f .given .1)
 
 -- and once it is undecided
 goes-on : (d : tie.Else2) → let k = d .before .before .before .before .before in undecided (earliest (stages (plan-words (words k))) (found k .counts)) ≡ true
@@ -57,12 +57,12 @@ returns-2 c =
 
 grant-record-requires : tie.Need-grant-record-requires
 grant-record-requires c κs =
-    let k = c .before .before .before .before .before .before in
-    lot-whole-sheet (lot-of k) (words k) (found k) (facts k)
+    let k = c .before .before .before .before .before .before .before in
+    (lot-whole-sheet (lot-of k) (words k) (found k) (facts k), rw (k .before .f .given .1) at (k .before .before .before .locate-lot-and-count .ensures .1))
 
 units-requires : tie.Need-units-requires
 units-requires c κs =
-    let d = c .before .before .before .before .before in
+    let d = c .before .before .before .before .before .before in
     let k = d .before .before .before .before .before in
     few (lot-of k) (words k) (found k) (facts k)
 
@@ -70,21 +70,21 @@ add-inspection-requires : tie.Need-add-inspection-requires
 add-inspection-requires c κs =
     let m = c .before .before in
     let g = m .before .before in
-    let d = g .before .before in
+    let d = g .before .before .before in
     let k = d .before .before .before .before .before in
     rw (c .units .ensures) (inspect-requires (lot-of k) (class-of k) (words k) (found k) (facts k) (sym (g .grant-record .ensures) ∙ m .enum-told .given .1))
 
 returns-3 : tie.Need-returns-3
 returns-3 c =
-    let x = c .before .before .before .before .before .before in
+    let x = c .before .before .before .before .before .before .before in
     let n = c .before .n .given in
-    rw (inspect-refused (x .args .lot) (x .args .class) (x .args .sheet .now) (n .0 .0) (sym (c .before .before .before .locate-lot .ensures) ∙ n .1)) (refl, refl)
+    rw (inspect-refused (x .args .lot) (x .args .class) (x .args .sheet .now) (n .0 .0) (sym (c .before .before .before .locate-lot-and-count .ensures .0) ∙ n .1)) (refl, refl)
 
 returns-4 : tie.Need-returns-4
 returns-4 c =
     let n = c .before .n2 .given in
     let g = c .before .before .before in
-    let d = g .before .before in
+    let d = g .before .before .before in
     let k = d .before .before .before .before .before in
     rw (inspect-denied (lot-of k) (class-of k) (words k) (found k) (facts k) (d .before .before .before .before .if1 .left) (goes-on d) (n .0 .0) (sym (g .grant-record .ensures) ∙ n .1))
     (refl, refl)
@@ -93,7 +93,7 @@ returns-5 : tie.Need-returns-5
 returns-5 c =
     let m = c .before .before .before .before .before in
     let g = m .before .before in
-    let d = g .before .before in
+    let d = g .before .before .before in
     let k = d .before .before .before .before .before in
     rw (inspect-granted (lot-of k) (class-of k) (words k) (found k) (facts k) (d .before .before .before .before .if1 .left) (goes-on d) (sym (g .grant-record .ensures) ∙ m .enum-told .given .1))
     (refl, rw (c .before .before .before .units .ensures) at (c .before .before .add-inspection .ensures))
