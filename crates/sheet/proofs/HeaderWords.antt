@@ -1,128 +1,131 @@
--- The header of a fresh sheet written word by word: the words so far, and those still to write; then the shares. Assumes nothing.
+-- The header of a fresh sheet, written part by part: the first words, zeros, the plan and the shares. Assumes nothing.
 use Prim.Native.Nat.{ℕ, suc, _+_, _-_, _≤_, _<_}
-use mathlib.Core.Path.{_≡_, refl, sym, ap, _∙_}
-use mathlib.Core.Bool.{Bool, true, false}
+use mathlib.Core.Path.{_≡_, refl, sym, ap, ap₂, _∙_}
+use mathlib.Core.Bool.{true}
 use mathlib.Core.List.{List, [], _∷_, _++_, append-assoc}
 use native.Mathlib.Omega.{arith}
-use lib.ListN.{length, set, take, drop, replicate, take-append-drop, length-take, length-drop, length-append, length-replicate, length-set, List·getD-append, List·getD-eq-default}
-use lib.Seq.{take-suc, drop-cons, append-snoc, set-at, take-at, drop-at, drop-drop, getD-drop, take-all, paste}
-use lib.Dec.{ltb}
-use borrow.Author.Tests.{ltb-true, ltb-false}
+use lib.ListN.{length, set, take, drop, replicate, take-append-drop, length-take, length-drop, length-append, length-replicate, getD-replicate, replicate-append-replicate}
+use lib.Seq.{take-all, take-add, take-at, drop-at, drop-drop, getD-drop, paste, paste-zero, paste-suc, take-paste, drop-paste}
 use Rattle.plan.specs.Plan.{stages, admitted}
 use Rattle.plan.proofs.Promise.{shape}
-use Rattle.sheetmodel.specs.Layout.{least-size, greatest-size, header-size, plan-start, shares-start, offices, word, first-record}
+use Rattle.sheetmodel.specs.Layout.{least-size, header-size, plan-start, shares-start, offices, first-record, word}
 use Rattle.sheetmodel.specs.Calls.{fresh-words}
-use Rattle.sheet.specs.Sharing.{with-plan}
-use Rattle.sheetmodel.proofs.ForSheet.{same-length, zero-word}
+use Rattle.sheet.specs.FreshHeader.{first-words}
 
--- the header's first i words after the stage count, and the old words from there on
-abbrev written-to : List ℕ → List ℕ → ℕ → List ℕ
-written-to p w i = take (plan-start + i) (with-plan p w) ++ drop (plan-start + i) w
+-- ---- a part in the making
 
--- v is w with i words of the plan written
-pub record Written-to (p w v : List ℕ) (i : ℕ) : Type 0 where
-  pub long : least-size ≤ length w
-  pub short : length w ≤ greatest-size
-  pub within : i ≤ (shares-start - plan-start)
-  pub len : length v ≡ length w
-  pub so-far : v ≡ written-to p w i
+-- the words from the plan to the shares
+abbrev room : ℕ
+room = shares-start - plan-start
 
--- the words before the plan
-abbrev pub first-words : List ℕ → ℕ → List ℕ
-first-words w k = set (set (set (set w 0 first-record) 1 0) 2 0) 3 k
+abbrev pub zeros : List ℕ
+zeros = replicate room 0
 
-first-written : (p w : List ℕ) (k : ℕ) → least-size ≤ length w → k ≡ length (stages p) →
-    (first-words w k ≡ written-to p (first-words w k) 0) × (drop shares-start (first-words w k) ≡ drop shares-start w) × (drop header-size (first-words w k) ≡ drop header-size w)
-unfolding fresh-words
-first-written p (a ∷ b ∷ c ∷ d ∷ rest) k long e = (rw e, refl, refl)
-first-written p [] k long e = absurd (omega arith)
-first-written p (a ∷ []) k long e = absurd (omega arith)
-first-written p (a ∷ b ∷ []) k long e = absurd (omega arith)
-first-written p (a ∷ b ∷ c ∷ []) k long e = absurd (omega arith)
+-- w with zeros from the plan on, before the word i
+abbrev pub zeros-to : List ℕ → ℕ → List ℕ
+zeros-to w i = paste w plan-start zeros (i - plan-start)
 
-pub begun : (p w : List ℕ) (k : ℕ) → least-size ≤ length w → length w ≤ greatest-size → k ≡ length (stages p) → Written-to p (first-words w k) (first-words w k) 0
-begun p w k long short e = record {
-  long = simp length-set (omega arith);
-  short = simp length-set (omega arith);
-  within = omega arith;
-  len = refl;
-  so-far = first-written p w k long e .0;
-}
+pub one-zero : (w : List ℕ) {v : List ℕ} (i : ℕ) → least-size ≤ length w → plan-start ≤ i → i < shares-start → v ≡ zeros-to w i → set v i 0 ≡ zeros-to w (i + 1)
+one-zero w i long low high e =
+    let j = i - plan-start in
+    let at : i ≡ plan-start + j = omega arith in
+    ap₂ (λ (u : List ℕ) (k : ℕ). set u k 0) e at ∙
+    ap (set (zeros-to w i) (plan-start + j)) (sym (getD-replicate room j 0 0 (omega arith))) ∙
+    paste-suc w plan-start zeros j 0 (omega arith) (omega (arith, length-replicate {A = ℕ} room 0)) ∙
+    ap (paste w plan-start zeros) {x = suc j} {y = i + 1 - plan-start} (omega arith)
 
-module _ (p w : List ℕ) (adm : admitted p ≡ true) {v : List ℕ} {i : ℕ} (r : Written-to p w v i) where
-  -- the words of the shares, as they were
-  abbrev old : List ℕ
-  old = take offices (drop shares-start w)
+-- five words of p from its word i on, stored from the word `at` on
+module _ (w p : List ℕ) (at i : ℕ) (inside : at + 5 ≤ length w) (whole : i + 5 ≤ length p) where
+  stored : {v : List ℕ} (j : ℕ) → j < 5 → v ≡ paste w at (drop i p) j → set v (at + j) (word p (i + j)) ≡ paste w at (drop i p) (suc j)
+  stored j b e =
+      ap₂ (λ (u : List ℕ) (x : ℕ). set u (at + j) x) e (sym (getD-drop i p j 0)) ∙
+      paste-suc w at (drop i p) j 0 (omega arith) (omega (arith, length-drop i p))
 
-  old-sixteen : length old ≡ offices
-  old-sixteen = omega (arith, length-take offices (drop shares-start w), length-drop shares-start w, r .long)
+  first-stored : set w at (word p i) ≡ paste w at (drop i p) 1
+  first-stored =
+      ap (λ (k : ℕ). set w k (word p i)) {x = at} {y = at + 0} (omega arith) ∙
+      ap (λ (k : ℕ). set w (at + 0) (word p k)) {x = i} {y = i + 0} (omega arith) ∙
+      stored 0 (omega arith) (paste-zero w at (drop i p))
 
-  -- past the plan both are 0
-  plan-word : i < (shares-start - plan-start) → word (with-plan p w) (plan-start + i) ≡ word p i
+  pub five-stored : set (set (set (set (set w at (word p i)) (at + 1) (word p (i + 1))) (at + 2) (word p (i + 2))) (at + 3) (word p (i + 3))) (at + 4) (word p (i + 4)) ≡ paste w at (drop i p) 5
+  five-stored = stored 4 (omega arith) (stored 3 (omega arith) (stored 2 (omega arith) (stored 1 (omega arith) first-stored)))
+
+-- the next n of s, after its first m
+pub paste-more : (d : List ℕ) (at : ℕ) (s : List ℕ) (m n : ℕ) → at ≤ length d → m ≤ length s → paste (paste d at s m) (at + m) (drop m s) n ≡ paste d at s (m + n)
+paste-more d at s m n hd hs =
+    let v : List ℕ = paste d at s m in
+    let behind : drop (at + m + n) v ≡ drop (at + (m + n)) d =
+    sym (drop-drop n (at + m) v) ∙ ap (drop n) (drop-paste d at s m hd hs) ∙ drop-drop n (at + m) d ∙ ap (λ (k : ℕ). drop k d) {x = at + m + n} {y = at + (m + n)} (omega arith) in
+    ap (λ (u : List ℕ). u ++ take n (drop m s) ++ drop (at + m + n) v) (take-paste d at s m hd hs) ∙
+    ap (λ (u : List ℕ). take at d ++ take m s ++ take n (drop m s) ++ u) behind ∙
+    ap (λ (u : List ℕ). u ++ drop (at + (m + n)) d) (append-assoc (take at d) (take m s) (take n (drop m s)) ∙ ap (λ (u : List ℕ). take at d ++ u) (sym (take-add m n s)))
+
+-- ---- the parts joined
+
+parts-pasted : (v a s c : List ℕ) (at n : ℕ) → take at v ≡ a → take n s ≡ s → drop (at + n) v ≡ c → paste v at s n ≡ a ++ s ++ c
+parts-pasted v a s c at n front all behind = rw (front, all, behind)
+
+-- the middle of three parts, written over
+over : (a b c s : List ℕ) (at n : ℕ) {v : List ℕ} → v ≡ a ++ (b ++ c) → length a ≡ at → length b ≡ n → length s ≡ n → paste v at s n ≡ a ++ (s ++ c)
+over a b c s at n {v} e la lb ls =
+    parts-pasted v a s c at n
+    (ap (take at) e ∙ take-at a (b ++ c) at la)
+    (take-all n s (omega arith))
+    (ap (drop (at + n)) (e ∙ sym (append-assoc a b c)) ∙ drop-at (a ++ b) c (at + n) (omega (arith, length-append a b))) ∙
+    append-assoc a s c
+
+abbrev before-plan : ℕ → List ℕ
+before-plan k = first-record ∷ 0 ∷ 0 ∷ k ∷ []
+
+first-written : (w : List ℕ) (k : ℕ) → least-size ≤ length w → first-words w k ≡ before-plan k ++ drop plan-start w
+first-written (a ∷ b ∷ c ∷ d ∷ rest) k long = refl
+first-written [] k long = absurd (omega arith)
+first-written (a ∷ []) k long = absurd (omega arith)
+first-written (a ∷ b ∷ []) k long = absurd (omega arith)
+first-written (a ∷ b ∷ c ∷ []) k long = absurd (omega arith)
+
+-- the first n words of l, and those after them
+parted : (l : List ℕ) (from n : ℕ) → drop from l ≡ take n (drop from l) ++ drop (from + n) l
+parted l from n = sym (take-append-drop n (drop from l)) ∙ ap (λ (u : List ℕ). take n (drop from l) ++ u) (drop-drop n from l)
+
+zeros-parted : (n : ℕ) → n ≤ room → zeros ≡ replicate n 0 ++ replicate (shares-start - (plan-start + n)) 0
+zeros-parted n b = let m = shares-start - (plan-start + n) in ap (λ (k : ℕ). replicate {A = ℕ} k 0) {x = room} {y = n + m} (omega arith) ∙ sym (replicate-append-replicate n m 0)
+
+module _ (p shares w : List ℕ) (adm : admitted p ≡ true) (sixteen : length shares ≡ offices) (long : least-size ≤ length w) where
+  abbrev k : ℕ
+  k = length (stages p)
+
+  abbrev after-plan : List ℕ
+  after-plan = replicate (shares-start - (plan-start + length p)) 0
+
+  -- the first words, and zeros
+  abbrev emptied : List ℕ
+  emptied = paste (first-words w k) plan-start zeros room
+
+  emptied-is : emptied ≡ before-plan k ++ (zeros ++ drop shares-start w)
+  emptied-is =
+      over (before-plan k) (take room (drop plan-start w)) (drop shares-start w) zeros plan-start room
+      (first-written w k long ∙ ap (λ (u : List ℕ). before-plan k ++ u) (parted w plan-start room))
+      refl (omega (arith, length-take room (drop plan-start w), length-drop plan-start w)) (length-replicate {A = ℕ} room 0)
+
+  abbrev planned : List ℕ
+  planned = paste emptied plan-start p (length p)
+
+  planned-is : planned ≡ before-plan k ++ (p ++ (after-plan ++ drop shares-start w))
+  planned-is =
+      let none : List ℕ = replicate (length p) 0 in
+      over (before-plan k) none (after-plan ++ drop shares-start w) p plan-start (length p)
+      (emptied-is ∙ ap (λ (u : List ℕ). before-plan k ++ u) (ap (λ (u : List ℕ). u ++ drop shares-start w) (zeros-parted (length p) (let a = shape p adm in omega arith)) ∙ append-assoc none after-plan (drop shares-start w)))
+      refl (length-replicate {A = ℕ} (length p) 0) refl
+
+  pub header-written : paste planned shares-start shares offices ≡ fresh-words p shares w
   unfolding fresh-words
-  plan-word b = go (ltb i (length p)) refl
-    where
-      go : (t : Bool) → ltb i (length p) ≡ t → word (with-plan p w) (plan-start + i) ≡ word p i
-      go true e = sym (getD-drop 4 (with-plan p w) i 0) ∙ List·getD-append p (replicate (shares-start - (plan-start + length p)) 0 ++ (old ++ drop header-size w)) 0 i (ltb-true i (length p) e)
-      go false e =
-          let past = ltb-false i (length p) e in
-          zero-word p old w adm old-sixteen (r .long) (r .short) i past b ∙ sym (List·getD-eq-default p 0 past)
-
-  pub one-more : i < (shares-start - plan-start) → Written-to p w (set v (plan-start + i) (word p i)) (i + 1)
-  one-more b =
-      let f = with-plan p w in
-      let k = 4 + i in
-      let same = same-length p old w adm old-sixteen (r .long) (r .short) in
-      record {
-        long = r .long;
-        short = r .short;
-        within = omega arith;
-        len = length-set v k (word p i) ∙ r .len;
-        so-far =
-            ap (λ (u : List ℕ). set u k (word p i)) (r .so-far) ∙
-            ap (λ (u : List ℕ). set (take k f ++ u) k (word p i)) (drop-cons w k 0 (omega (arith, r .long))) ∙
-            set-at (take k f) (word w k) (drop (suc k) w) (word p i) k (omega (arith, length-take k f, r .long)) ∙
-            sym (append-snoc (take k f) (word p i) (drop (suc k) w)) ∙
-            ap (λ (x : ℕ). take k f ++ (x ∷ []) ++ drop (suc k) w) (sym (plan-word b)) ∙
-            ap (λ (u : List ℕ). u ++ drop (suc k) w) (sym (take-suc f k 0 (omega (arith, r .long)))) ∙
-            ap (λ (n : ℕ). take n f ++ drop n w) {x = suc k} {y = 4 + (i + 1)} (omega arith);
-      }
-
-  tail : drop shares-start (with-plan p w) ≡ drop shares-start w
-  unfolding fresh-words
-  tail =
-      let zeros : List ℕ = replicate (shares-start - (plan-start + length p)) 0 in
+  header-written =
+      let front : List ℕ = before-plan k ++ (p ++ after-plan) in
       let a = shape p adm in
-      ap (drop (shares-start - plan-start)) (sym (append-assoc p zeros (old ++ drop header-size w))) ∙
-      drop-at (p ++ zeros) (old ++ drop header-size w) (shares-start - plan-start) (omega (arith, length-append p zeros, length-replicate {A = ℕ} (shares-start - (plan-start + length p)) 0)) ∙
-      ap (λ (u : List ℕ). old ++ u) (sym (drop-drop offices shares-start w)) ∙ take-append-drop offices (drop shares-start w)
-
-  pub all-written : (shares-start - plan-start) ≤ i → v ≡ with-plan p w
-  all-written b =
-      r .so-far ∙ ap (λ (n : ℕ). written-to p w n) {x = i} {y = (shares-start - plan-start)} (omega (arith, r .within)) ∙
-      ap (λ (u : List ℕ). take shares-start (with-plan p w) ++ u) (sym tail) ∙ take-append-drop shares-start (with-plan p w)
-
--- the words before the plan do not matter
-pub fresh-first : (p w : List ℕ) (k : ℕ) → least-size ≤ length w → k ≡ length (stages p) → with-plan p (first-words w k) ≡ with-plan p w
-unfolding fresh-words
-fresh-first p w k long e = let f = first-written p w k long e in rw (f .1, f .2)
-
-parts-pasted : (v front shares rest : List ℕ) → take shares-start v ≡ front → take offices shares ≡ shares → drop header-size v ≡ rest → paste v shares-start shares offices ≡ front ++ shares ++ rest
-parts-pasted v front shares rest a b c = rw (a, b, c)
-
--- with the shares the header is that of a fresh sheet
-pub shares-written : (p shares w : List ℕ) → admitted p ≡ true → length shares ≡ offices → least-size ≤ length w → paste (with-plan p w) shares-start shares offices ≡ fresh-words p shares w
-unfolding fresh-words
-shares-written p shares w adm sixteen long =
-    let zeros : List ℕ = replicate (shares-start - (plan-start + length p)) 0 in
-    let front : List ℕ = first-record ∷ 0 ∷ 0 ∷ length (stages p) ∷ (p ++ zeros) in
-    let old : List ℕ = take offices (drop shares-start w) in
-    let a = shape p adm in
-    let front-is : length front ≡ shares-start = omega (arith, length-append p zeros, length-replicate {A = ℕ} (shares-start - (plan-start + length p)) 0) in
-    let parted : with-plan p w ≡ front ++ (old ++ drop header-size w) = ap (λ (u : List ℕ). first-record ∷ 0 ∷ 0 ∷ length (stages p) ∷ u) (sym (append-assoc p zeros (old ++ drop header-size w))) in
-    let before : take shares-start (with-plan p w) ≡ front = ap (take shares-start) parted ∙ take-at front (old ++ drop header-size w) shares-start front-is in
-    let behind : drop header-size (with-plan p w) ≡ drop header-size w =
-    ap (drop header-size) (parted ∙ sym (append-assoc front old (drop header-size w))) ∙
-    drop-at (front ++ old) (drop header-size w) header-size (omega (arith, length-append front old, length-take offices (drop shares-start w), length-drop shares-start w)) in
-    let all : take offices shares ≡ shares = take-all offices shares (omega arith) in
-    parts-pasted (with-plan p w) front shares (drop header-size w) before all behind ∙ append-assoc front shares (drop header-size w) ∙ ap (λ (u : List ℕ). first-record ∷ 0 ∷ 0 ∷ length (stages p) ∷ u) (append-assoc p zeros (shares ++ drop header-size w))
+      let grouped : (u : List ℕ) → before-plan k ++ (p ++ (after-plan ++ u)) ≡ front ++ u = λ u. ap (λ (l : List ℕ). before-plan k ++ l) (sym (append-assoc p after-plan u)) in
+      over front (take offices (drop shares-start w)) (drop header-size w) shares shares-start offices
+      (planned-is ∙ grouped (drop shares-start w) ∙ ap (λ (u : List ℕ). front ++ u) (parted w shares-start offices))
+      (omega (arith, length-append p after-plan, length-replicate {A = ℕ} (shares-start - (plan-start + length p)) 0))
+      (omega (arith, length-take offices (drop shares-start w), length-drop shares-start w)) sixteen ∙
+      sym (grouped (shares ++ drop header-size w))

@@ -4,17 +4,17 @@ use mathlib.Core.Path.{_≡_}
 use mathlib.Core.Bool.{true}
 use mathlib.Core.Option.{Option, some}
 use mathlib.Core.List.{List}
-use lib.ListN.{length, set, take, drop}
+use lib.ListN.{length, set}
 use Rattle.sheet.specs.declared.survey.Surveyed.{Surveyed}
 use Rattle.sheet.specs.declared.survey.Surveyed.the-variants as survey
 use Rattle.sheet.specs.declared.locating.Located.{Located}
 use Rattle.sheet.specs.declared.locating.Located.the-variants as locating
-use Rattle.sheetmodel.specs.Layout.{size-ok, word, shares-start, offices}
+use Rattle.sheetmodel.specs.Layout.{size-ok, word, offices}
 use Rattle.sheetmodel.specs.Contents.{Lot}
 use Rattle.sheetmodel.specs.Offices.{office, held}
 use Rattle.sheetmodel.specs.Read.{read}
 use Rattle.sheetmodel.specs.Rows.{is-some}
-use Rattle.sheetmodel.specs.Calls.{fresh-words, contents}
+use Rattle.sheetmodel.specs.Calls.{contents}
 
 -- rows 1 and 3 do not apply
 pub record Whole-sheet (w : List ℕ) : Type 0 where
@@ -39,7 +39,3 @@ Counted (survey.Intact f) o h = (ls : List Lot) × (o ≡ some ls) × Held-by ls
 abbrev pub Counted-on : List ℕ → Located → List ℕ → Type 0
 Counted-on w (locating.Refused n) h = Unit
 Counted-on w (locating.At f) h = Held-by (contents w .lots) h
-
--- the header of a fresh sheet but for the shares, which stay
-abbrev pub with-plan : List ℕ → List ℕ → List ℕ
-with-plan p w = fresh-words p (take offices (drop shares-start w)) w

@@ -1,76 +1,60 @@
--- `sheet::put_plan` meets its contract. The loop's invariant is how far the header is written. Assumes nothing.
-use Prim.Native.Nat.{_-_, _/_}
-use mathlib.Core.Path.{_≡_, _∙_}
+-- `sheet::put_plan` meets its contract. The loop's invariant is how many words are written: whole stages. Assumes nothing.
+use Prim.Native.Nat.{ℕ, _+_, _-_, _≤_, _<_, _%_}
+use mathlib.Core.Path.{_≡_, refl, ap, _∙_}
+use mathlib.Core.Bool.{true}
+use mathlib.Core.List.{List}
 use native.Mathlib.Omega.{arith}
-use lib.ListN.{length, length-set}
-use Rattle.plan.specs.Plan.{stages}
+use lib.ListN.{length, drop}
+use lib.Seq.{paste, paste-zero}
+use Rattle.plan.specs.Plan.{admitted}
 use Rattle.plan.proofs.Promise.{shape}
-use Rattle.sheetmodel.specs.Layout.{shares-start, plan-start}
-use Rattle.sheet.proofs.HeaderWords.{Written-to, begun, one-more, all-written, fresh-first}
+use Rattle.sheetmodel.specs.Layout.{plan-start, plan-room}
+use Rattle.sheet.proofs.HeaderWords.{paste-more}
 use Rattle.sheet.proofs.fresh_sheet.put_plan.Statement.{statement}
 use Rattle.sheet.proofs.fresh_sheet.put_plan.Tie as tie
 
 abbrev Inv-loop : tie.InvT-loop
-Inv-loop sheet₀ plan i₀ sheet i = Written-to plan sheet₀ sheet i
+Inv-loop sheet₀ plan i₀ sheet i = (i % 5 ≡ 0) × (i ≤ length plan) × (length sheet ≡ length sheet₀) × (sheet ≡ paste sheet₀ plan-start plan i)
 
 abbrev μ-loop : tie.MeasureT-loop
-μ-loop sheet₀ plan i₀ sheet i = shares-start - plan-start - i
+μ-loop sheet₀ plan i₀ sheet i = length plan - i
 
--- k
-stage-count : (c : tie.Start Inv-loop μ-loop) → length (c .args .plan .now) / 5 ≡ length (stages (c .args .plan .now))
-stage-count c = omega (arith, shape (c .args .plan .now) (c .pre .2) .whole)
-
-slice-write-sheet : tie.Need-slice-write-sheet Inv-loop μ-loop
-slice-write-sheet c = omega arith
-
-slice-write-sheet-2 : tie.Need-slice-write-sheet-2 Inv-loop μ-loop
-slice-write-sheet-2 c = simp length-set (omega arith)
-
-slice-write-sheet-3 : tie.Need-slice-write-sheet-3 Inv-loop μ-loop
-slice-write-sheet-3 c = simp length-set (omega arith)
-
-cast-sheet : tie.Need-cast-sheet Inv-loop μ-loop
-cast-sheet c = let s = c .before .before in omega (arith, stage-count s, shape (s .args .plan .now) (s .pre .2) .seven-stages)
-
-slice-write-sheet-4 : tie.Need-slice-write-sheet-4 Inv-loop μ-loop
-slice-write-sheet-4 c = simp length-set (omega arith)
+-- a stage not written yet is whole, and lies before the shares
+next-whole : (p : List ℕ) (i : ℕ) → admitted p ≡ true → i % 5 ≡ 0 → i < length p → (i + 5 ≤ length p) × (length p ≤ plan-room) × ((i + 5) % 5 ≡ 0)
+next-whole p i adm e b = let a = shape p adm in (omega arith, omega arith, omega arith)
 
 loop-holds : tie.Need-loop-holds Inv-loop μ-loop
-loop-holds c =
-    let s = c .before .before in
-    begun (s .args .plan .now) (s .args .sheet .now) (length (s .args .plan .now) / 5) (s .pre .0) (s .pre .1) (stage-count s)
+loop-holds c = let a = c .before .before .args in (refl, omega arith, refl, paste-zero (a .sheet .now) plan-start (a .plan .now))
 
-plan-word-requires : tie.Need-plan-word-requires Inv-loop μ-loop
-plan-word-requires c κs = tt
-
-add-sheet : tie.Need-add-sheet Inv-loop μ-loop
-add-sheet c = omega arith
-
-mul-sheet : tie.Need-mul-sheet Inv-loop μ-loop
-mul-sheet c = omega arith
-
-slice-write-sheet-5 : tie.Need-slice-write-sheet-5 Inv-loop μ-loop
-slice-write-sheet-5 c = omega arith
-
-add-i : tie.Need-add-i Inv-loop μ-loop
-add-i c = omega arith
-
-loop-less : tie.Need-loop-less Inv-loop μ-loop
-loop-less c = omega arith
+put-stage-requires : tie.Need-put-stage-requires Inv-loop μ-loop
+put-stage-requires c κs =
+    let s = c .before .before .before .before .before in
+    let n = next-whole (s .args .plan .now) (c .before .before .loop .i) (s .pre .1) (c .before .before .loop .inv .0) (c .before .loop-test .taken) in
+    (omega (arith, n, s .pre .0, c .before .before .loop .inv .2), n .0)
 
 loop-again : tie.Need-loop-again Inv-loop μ-loop
 loop-again c =
-    let s = c .before .before .before .before .before in
-    rw (c .plan-word .ensures) (one-more (s .args .plan .now) _ (s .pre .2) (c .before .before .loop .inv) (c .before .loop-test .taken))
+    let l = c .before .before .before .before .before .loop in
+    let s = c .before .before .before .before .before .before .before .before in
+    let d : List ℕ = s .args .sheet .now in
+    let p : List ℕ = s .args .plan .now in
+    let call = c .before .before .put-stage in
+    let n = next-whole p (l .i) (s .pre .1) (l .inv .0) (c .before .before .before .before .loop-test .taken) in (
+      n .2,
+      n .0,
+      call .kept .0 ∙ l .inv .2,
+      call .ensures ∙ ap (λ (v : List ℕ). paste v (plan-start + l .i) (drop (l .i) p) 5) (l .inv .3) ∙ paste-more d plan-start p (l .i) 5 (omega (arith, s .pre .0)) (l .inv .1),
+    )
 
 same-length : tie.Need-same-length Inv-loop μ-loop
-same-length c = c .before .loop .inv .len ∙ simp length-set
+same-length c = c .before .loop .inv .2
 
 returns : tie.Need-returns Inv-loop μ-loop
 returns c =
-    let s = c .before .before .before .before in
-    all-written (s .args .plan .now) _ (s .pre .2) (c .before .loop .inv) (c .loop-test .left) ∙
-    fresh-first (s .args .plan .now) (s .args .sheet .now) (length (s .args .plan .now) / 5) (s .pre .0) (stage-count s)
+    let l = c .before .loop in
+    let a = c .before .before .before .before .args in
+    let all : l .i ≡ length (a .plan .now) = omega (arith, l .inv .1, c .loop-test .left) in
+    l .inv .3 ∙ ap (paste (a .sheet .now) plan-start (a .plan .now)) all
 
 pub put-plan-spec : {M : Type 1} → statement M
 put-plan-spec =
@@ -78,19 +62,10 @@ put-plan-spec =
     (tie.spec
     Inv-loop
     μ-loop
-    slice-write-sheet
-    slice-write-sheet-2
-    slice-write-sheet-3
-    cast-sheet
-    slice-write-sheet-4
     loop-holds
+    put-stage-requires
     (λ c. omega arith)
-    plan-word-requires
-    add-sheet
-    mul-sheet
-    slice-write-sheet-5
-    add-i
-    loop-less
+    (λ c. omega arith)
     loop-again
     same-length
     returns)

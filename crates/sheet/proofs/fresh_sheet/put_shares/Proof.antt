@@ -15,40 +15,29 @@ Inv-loop sheet₀ shares o₀ sheet o = (o ≤ offices) × (length sheet ≡ len
 abbrev μ-loop : tie.MeasureT-loop
 μ-loop sheet₀ shares o₀ sheet o = offices - o
 
+-- an array that is a parameter has its length
+sixteen : (c : tie.Start Inv-loop μ-loop) → length (c .args .t2) ≡ offices
+sixteen c = c .good .1 .0 .1 .0 .1
+
 loop-holds : tie.Need-loop-holds Inv-loop μ-loop
-loop-holds c = (omega arith, refl, paste-zero (c .args .sheet .now) shares-start (c .args .shares .now))
+loop-holds c = (omega arith, refl, paste-zero (c .args .sheet .now) shares-start (c .args .t2))
 
-mul-sheet : tie.Need-mul-sheet Inv-loop μ-loop
-mul-sheet c = omega arith
-
-shared-slice-read-sheet : tie.Need-shared-slice-read-sheet Inv-loop μ-loop
-shared-slice-read-sheet c = omega (arith, c .before .before .before .pre .1, c .before .loop-test .taken)
-
-add-sheet : tie.Need-add-sheet Inv-loop μ-loop
-add-sheet c = omega arith
-
-mul-sheet-2 : tie.Need-mul-sheet-2 Inv-loop μ-loop
-mul-sheet-2 c = omega arith
+array-read-sheet : tie.Need-array-read-sheet Inv-loop μ-loop
+array-read-sheet c = omega (arith, sixteen (c .before .before))
 
 slice-write-sheet : tie.Need-slice-write-sheet Inv-loop μ-loop
-slice-write-sheet c = let s = c .before .before .before in omega (arith, s .pre .0, c .before .before .loop .inv .1, c .before .loop-test .taken)
-
-add-o : tie.Need-add-o Inv-loop μ-loop
-add-o c = omega arith
-
-loop-less : tie.Need-loop-less Inv-loop μ-loop
-loop-less c = omega (arith, c .before .loop-test .taken)
+slice-write-sheet c = omega (arith, c .before .before .pre, c .before .loop .inv .1)
 
 loop-again : tie.Need-loop-again Inv-loop μ-loop
 loop-again c =
-    let l = c .before .before .loop in
-    let s = c .before .before .before in
+    let l = c .before .loop in
+    let s = c .before .before in
     let d : List ℕ = s .args .sheet .now in
-    let shares : List ℕ = s .args .shares .now in (
+    let shares : List ℕ = s .args .t2 in (
       omega arith,
       length-set (l .sheet) (shares-start + l .o) _ ∙ l .inv .1,
       ap (λ (v : List ℕ). set v (shares-start + l .o) (word shares (l .o))) (l .inv .2) ∙
-          paste-suc d shares-start shares (l .o) 0 (omega (arith, s .pre .0, c .before .loop-test .taken)) (omega (arith, c .before .loop-test .taken, s .pre .1)) ∙
+          paste-suc d shares-start shares (l .o) 0 (omega (arith, s .pre)) (omega (arith, sixteen s)) ∙
           ap (paste d shares-start shares) {x = suc (l .o)} {y = l .o + 1} (omega arith),
     )
 
@@ -58,8 +47,9 @@ same-length c = c .before .loop .inv .1
 returns : tie.Need-returns Inv-loop μ-loop
 returns c =
     let l = c .before .loop in
+    let s = c .before .before in
     let all : l .o ≡ offices = omega (arith, l .inv .0, c .loop-test .left) in
-    l .inv .2 ∙ ap (paste (c .before .before .args .sheet .now) shares-start (c .before .before .args .shares .now)) all
+    (sixteen s, l .inv .2 ∙ ap (paste (s .args .sheet .now) shares-start (s .args .t2)) all)
 
 pub put-shares-spec : {M : Type 1} → statement M
 put-shares-spec =
@@ -68,13 +58,13 @@ put-shares-spec =
     Inv-loop
     μ-loop
     loop-holds
-    mul-sheet
-    shared-slice-read-sheet
-    add-sheet
-    mul-sheet-2
+    (λ c. omega arith)
+    array-read-sheet
+    (λ c. omega arith)
+    (λ c. omega arith)
     slice-write-sheet
-    add-o
-    loop-less
+    (λ c. omega arith)
+    (λ c. omega arith)
     loop-again
     same-length
     returns)
