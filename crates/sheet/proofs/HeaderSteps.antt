@@ -46,3 +46,7 @@ module _ (w : List ℕ) (low : least-size ≤ length w) where
       let m : accepted-lots - end ≡ plan-room - k = omega arith in
       let n : end ≡ plan-start + k = omega arith in
       rw (m, n) (sym (drop-take k plan-room (drop plan-start w) ∙ ap (take (plan-room - k)) (drop-drop k plan-start w)))
+
+-- the unused stages have no more words than all stages
+pub few-unused : (w : List ℕ) → length (unused-stages w) ≤ plan-room
+few-unused w = omega (arith, length-drop (5 * word w stage-count) (take plan-room (drop plan-start w)), length-take plan-room (drop plan-start w))

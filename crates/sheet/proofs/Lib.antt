@@ -1,5 +1,6 @@
 -- of the code that reads a sheet
 mod Sizes
+mod WordSums
 mod Used
 mod HeaderSteps
 mod ChainSteps

@@ -21,17 +21,6 @@ use Rattle.sheet.specs.Sharing.{Whole-sheet, Held-by, with-lot-held}
 use Rattle.sheetmodel.proofs.ForSheet.{some-value, depths, an-office, others-and-own, sum-same, word-set, word-set-here}
 use Rattle.sheet.proofs.Requires.{holds, sized, freeing}
 
--- ---- sums over offices
-
--- one word more
-pub one-more : (f : ℕ → ℕ) (n sum : ℕ) → sum ≡ added-up n f → sum + f n ≡ added-up (n + 1) f
-unfolding added-up
-one-more f n sum e = let k : n + 1 ≡ suc n = omega arith in rw k (omega arith)
-
-pub no-words : (f : ℕ → ℕ) → 0 ≡ added-up 0 f
-unfolding added-up
-no-words f = refl
-
 -- ---- a whole sheet
 
 module _ (w : List ℕ) (k : Whole-sheet w) where

@@ -9,6 +9,7 @@ use crate::layout::PLAN_START;
 use crate::layout::REJECTED_LOTS;
 use crate::layout::STAGE_COUNT;
 use crate::record::record_count;
+use crate::sums::sum_of;
 ghost use mathlib.Core.Path.{_≡_};
 ghost use Prim.Native.Nat.{_+_, _*_, _≤_};
 ghost use lib.ListN.{length};
@@ -42,17 +43,13 @@ fn unused_stages(sheet: &[u32]) -> &[u32]
     &sheet[end..ACCEPTED_LOTS]
 }
 
+// By their sum: a test of each word would leave the loop at the first that is not 0, and so take them one by
+// one.
 fn is_zero(words: &[u32]) -> bool
+    requires { ⌜ length (now words) ≤ greatest-size ⌝ }
     ensures { λ r. ⌜ r ≡ all-zero (now (words .entry)) ⌝ }
 {
-    let mut i: usize = 0;
-    while i < words.len() {
-        if words[i] != 0 {
-            return false;
-        }
-        i += 1;
-    }
-    true
+    sum_of(words) == 0
 }
 
 // Are the totals within their bounds?

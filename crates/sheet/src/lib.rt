@@ -17,6 +17,7 @@ mod progress;
 mod record;
 mod size;
 mod striking;
+mod sums;
 mod survey;
 mod totals;
 mod writing;

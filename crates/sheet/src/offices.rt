@@ -6,6 +6,7 @@ use crate::layout::NEXT_UNUSED;
 use crate::layout::OFFICES;
 use crate::layout::SHARES_START;
 use crate::record::record_count;
+use crate::sums::sum_of;
 ghost use mathlib.Core.Path.{_≡_};
 ghost use Prim.Native.Nat.{_+_, _-_, _≤_};
 ghost use lib.ListN.{length};
@@ -14,20 +15,6 @@ ghost use Rattle.sheetmodel.specs.Layout.{largest, least-size, greatest-size, w
 ghost use Rattle.sheetmodel.specs.Offices.{office, added-up, shares-fit, spare, may-take};
 ghost use Rattle.sheetmodel.specs.Calls.{contents};
 ghost use Rattle.sheet.specs.Sharing.{Whole-sheet, Held-by, with-lot-held};
-
-// Sixteen words, from the word `from` on, added up.
-fn sum_of(words: &[u32], from: usize) -> u64
-    requires { ⌜ (from + offices ≤ length (now words)) × (length (now words) ≤ greatest-size) ⌝ }
-    ensures { λ r. ⌜ r ≡ added-up offices (λ o. word (now (words .entry)) (from + o)) ⌝ }
-{
-    let mut sum: u64 = 0;
-    let mut o: usize = 0;
-    while o < OFFICES {
-        sum += words[from + o] as u64;
-        o += 1;
-    }
-    sum
-}
 
 // Are there as many records after the header?
 fn has_records(sheet: &[u32], n: u64) -> bool
@@ -42,7 +29,7 @@ pub fn shares_fit(sheet: &[u32]) -> bool
     requires { ⌜ (least-size ≤ length (now sheet)) × (length (now sheet) ≤ greatest-size) ⌝ }
     ensures { λ r. ⌜ r ≡ shares-fit (share (now (sheet .entry))) (now (sheet .entry)) ⌝ }
 {
-    has_records(sheet, sum_of(sheet, SHARES_START))
+    has_records(sheet, sum_of(&sheet[SHARES_START..SHARES_START + OFFICES]))
 }
 
 // Would these?
@@ -50,7 +37,7 @@ pub fn given_shares_fit(sheet: &[u32], shares: &[u32; 16]) -> bool
     requires { ⌜ (least-size ≤ length (now sheet)) × (length (now sheet) ≤ greatest-size) ⌝ }
     ensures { λ r. ⌜ r ≡ shares-fit (word (now (shares .entry))) (now (sheet .entry)) ⌝ }
 {
-    has_records(sheet, sum_of(shares, 0))
+    has_records(sheet, sum_of(shares))
 }
 
 fn office_of(lot: u32) -> usize

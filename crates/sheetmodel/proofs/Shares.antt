@@ -44,11 +44,6 @@ sum-part (suc n) a f b = go (sum-part n a f) (eqb n a) refl
     go ih true e = omega (arith, ap f (eqb-true n a e))
     go ih false e = let d : n ≢ a = eqb-false n a e in omega (arith, ih (omega arith))
 
-pub sum-most : (n : ℕ) (f g : ℕ → ℕ) → ((o : ℕ) → f o ≤ g o) → added-up n f ≤ added-up n g
-unfolding added-up
-sum-most zero f g h = omega arith
-sum-most (suc n) f g h = omega (arith, sum-most n f g h, h n)
-
 pub an-office : (n : ℕ) → office n < offices
 an-office n = mod-lt n (omega arith)
 
@@ -66,14 +61,6 @@ fit-kept f g w v len h e = rw (sum-same offices g f h, len) e
 held-at : (xs ys : List Lot) (l : Lot) (o : ℕ) → held (xs ++ (l ∷ ys)) o ≡ held-by l o + held (xs ++ ys) o
 held-at [] ys l o = refl
 held-at (x ∷ xs) ys l o = omega (arith, held-at xs ys l o)
-
-pub held-bound : (ls : List Lot) (o : ℕ) → held ls o ≤ records-of ls
-held-bound [] o = omega arith
-held-bound (l ∷ ls) o = go (eqb (office (l .number)) o) (held-bound ls o)
-  where
-    go : (b : Bool) → held ls o ≤ records-of ls → cond b (1 + length (l .inspections)) 0 + held ls o ≤ 1 + length (l .inspections) + records-of ls
-    go true h = omega arith
-    go false h = omega arith
 
 pub spare-is : {start : ℕ} {w : List ℕ} {s : Contents} → Holds start w s → spare w s + (start + records-of (s .lots)) ≡ records w
 spare-is h = omega (arith, h .count, h .room)

@@ -7,7 +7,7 @@ use native.Mathlib.Omega.{arith}
 use Rattle.plan.specs.Plan.{admitted}
 use Rattle.sheetmodel.specs.Layout.{word, next-unused, plan-words, unused-stages, records}
 use Rattle.sheetmodel.specs.Read.{all-zero}
-use Rattle.sheet.proofs.HeaderSteps.{too-many}
+use Rattle.sheet.proofs.HeaderSteps.{too-many, few-unused}
 use Rattle.sheet.proofs.header.header_ok.Statement.{statement}
 use Rattle.sheet.proofs.header.header_ok.Tie as tie
 
@@ -22,6 +22,9 @@ returns-2 c = rw (ap admitted (sym (c .before .before .plan-of .ensures)) ∙ sy
 -- the plan is admitted
 plan-ok : (c : tie.Else2) → admitted (plan-words (c .before .before .before .before .before .before .args .sheet .now)) ≡ true
 plan-ok c = ap admitted (sym (c .before .before .plan-of .ensures)) ∙ sym (c .before .admitted .ensures) ∙ not-false _ (c .if2 .left)
+
+is-zero-requires : tie.Need-is-zero-requires
+is-zero-requires c κs = rw (c .unused-stages .ensures) (omega (arith, few-unused (c .before .before .before .before .before .before .before .args .sheet .now)))
 
 returns-3 : tie.Need-returns-3
 returns-3 c =
@@ -71,7 +74,7 @@ header-ok-spec =
     (λ c κs. search needs)
     returns-2
     (λ c κs. search needs)
-    (λ c κs. search needs)
+    is-zero-requires
     returns-3
     (λ c. search needs)
     (λ c. omega (arith, c .shared-slice-known3 .given next-unused))

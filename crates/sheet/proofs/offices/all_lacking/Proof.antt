@@ -5,7 +5,7 @@ use native.Mathlib.Omega.{arith}
 use borrow.Author.Needs.{needs}
 use Rattle.sheetmodel.specs.Layout.{largest, word, shares-start, offices, share}
 use Rattle.sheetmodel.specs.Offices.{added-up}
-use Rattle.sheet.proofs.OfficeSteps.{one-more, no-words}
+use Rattle.sheet.proofs.WordSums.{one-more, no-words}
 use Rattle.sheet.proofs.offices.all_lacking.Statement.{statement}
 use Rattle.sheet.proofs.offices.all_lacking.Tie as tie
 
