@@ -8,10 +8,13 @@ pub fn sample_size(plan: &[u32]) -> u32
     requires { ⌜ total (stages (now plan)) ≤ 1000 ⌝ }
     ensures { λ r. ⌜ r ≡ total (stages (now (plan .entry))) ⌝ }
 {
-    if plan.len() < 5 {
-        return 0;
+    let mut rest = plan;
+    let mut units = 0;
+    while 5 <= rest.len() {
+        units += rest[0];
+        rest = &rest[5..];
     }
-    plan[0] + sample_size(&plan[5..])
+    units
 }
 
 // The stage ends on both sides of y units.
