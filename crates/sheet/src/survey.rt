@@ -19,7 +19,7 @@ ghost use mathlib.Core.Option.{some};
 ghost use Prim.Native.Nat.{_+_, _≤_};
 ghost use lib.ListN.{length, replicate};
 ghost use lib.Dec.{eqb};
-ghost use Rattle.plan.specs.Plan.{stages, admitted};
+ghost use Rattle.plan.specs.Plan.{stages, total, admitted};
 ghost use Rattle.plan.specs.Counts.{units};
 ghost use Rattle.sheetmodel.specs.Layout.{least-size, greatest-size, next-unused, first-lot, word, records, offices};
 ghost use Rattle.sheetmodel.specs.Read.{then, read-from, read-lots};
@@ -77,13 +77,20 @@ fn with_lot_found(sought: u32, f: Found, at: u32, number: u32, c: Counts, blanks
     next
 }
 
-// The lots and their inspections. `held` takes what each office holds of them.
-fn lots(sheet: &[u32], first: u32, plan: &[u32], sought: u32, held: &mut [u32; 16]) -> Surveyed
-    requires { ⌜ Sized (now sheet) × (admitted (now plan) ≡ true) × (now held ≡ replicate offices 0) ⌝ }
+// The lots and their inspections, of which a lot has at most `most`, the sample size. `held` takes what each
+// office holds of them.
+fn lots(
+    sheet: &[u32],
+    first: u32,
+    plan: &[u32],
+    most: u32,
+    sought: u32,
+    held: &mut [u32; 16],
+) -> Surveyed
+    requires { ⌜ Sized (now sheet) × (admitted (now plan) ≡ true) × (most ≡ total (stages (now plan))) × (now held ≡ replicate offices 0) ⌝ }
     ensures { λ r. ⌜ r ≡ lots-survey (stages (now (plan .entry))) sought nothing-found (read-lots first (now (sheet .entry)) (records (now (sheet .entry))) 0 (word (now (sheet .entry)) first-lot)) ⌝ }
     ensures { λ r. ⌜ Counted r (read-lots first (now (sheet .entry)) (records (now (sheet .entry))) 0 (word (now (sheet .entry)) first-lot)) (now (held .exit)) ⌝ }
 {
-    let most = plan::sample_size(plan);
     let mut f = Found {
         used: 0,
         before: 0,
@@ -138,7 +145,9 @@ pub fn survey(sheet: &[u32], first: u32, sought: u32, held: &mut [u32; 16]) -> S
     if !header_ok(sheet, first) {
         return Surveyed::Corrupt;
     }
-    match lots(sheet, first, plan_of(sheet), sought, held) {
+    let plan = plan_of(sheet);
+    let most = plan::sample_size(plan);
+    match lots(sheet, first, plan, most, sought, held) {
         Surveyed::Corrupt => Surveyed::Corrupt,
         Surveyed::Intact(f) => match free_chain(sheet, first) {
             FreeChain::Corrupt => Surveyed::Corrupt,

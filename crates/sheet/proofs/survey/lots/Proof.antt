@@ -21,29 +21,24 @@ use Rattle.sheet.proofs.survey.lots.Statement.{statement}
 use Rattle.sheet.proofs.survey.lots.Tie as tie
 
 abbrev Inv-loop : tie.InvT-loop
-Inv-loop sheet first plan sought held₀ most f₀ left₀ above₀ at₀ held f left above at =
+Inv-loop sheet first plan most sought held₀ f₀ left₀ above₀ at₀ held f left above at =
     (left ≤ records sheet) × (f .used + 1001 * left ≤ 1001 * records sheet) ×
     (lots-survey (stages plan) sought nothing-found (read-lots first sheet (records sheet) 0 (word sheet first-lot)) ≡
     lots-survey (stages plan) sought f (read-lots first sheet left above at)) ×
     Counting (read-lots first sheet (records sheet) 0 (word sheet first-lot)) (read-lots first sheet left above at) held (f .used)
 
 abbrev μ-loop : tie.MeasureT-loop
-μ-loop sheet first plan sought held₀ most f₀ left₀ above₀ at₀ held f left above at = left
-
-sample-size-requires : tie.Need-sample-size-requires Inv-loop μ-loop
-sample-size-requires c κs =
-    let s = c .before .before in
-    shape (s .args .plan .now) (s .pre .1) .thousand-units
+μ-loop sheet first plan most sought held₀ f₀ left₀ above₀ at₀ held f left above at = left
 
 loop-holds : tie.Need-loop-holds Inv-loop μ-loop
 loop-holds c =
-    let s = c .before .before .before .before .before .before in
-    rw (c .before .record-count .ensures, s .pre .2) (omega arith, omega arith, rw (c .before .before .no-units .ensures), count-start _)
+    let s = c .before .before .before .before .before in
+    rw (c .before .record-count .ensures, s .pre .3) (omega arith, omega arith, rw (c .before .before .no-units .ensures), count-start _)
 
 returns : tie.Need-returns Inv-loop μ-loop
 returns c =
     let l = c .before .before .loop in
-    let a = c .before .before .before .before .before .before .before .before .before .args in (
+    let a = c .before .before .before .before .before .before .before .before .args in (
       sym (l .inv .2 ∙ no-lot (a .first) (a .sheet .now) (stages (a .plan .now)) (a .sought) (l .f) (l .left) (l .above) (l .at) (c .if1 .taken)),
       count-done _ _ (l .held) (l .f .used) (l .inv .3) (no-lots (a .first) (a .sheet .now) (l .left) (l .above) (l .at) (c .if1 .taken)),
     )
@@ -51,7 +46,7 @@ returns c =
 returns-2 : tie.Need-returns-2 Inv-loop μ-loop
 returns-2 c =
     let l = c .before .before .before .before .loop in
-    let a = c .before .before .before .before .before .before .before .before .before .before .before .args in (
+    let a = c .before .before .before .before .before .before .before .before .before .before .args in (
       sym (l .inv .2 ∙ not-lot (a .first) (a .sheet .now) (stages (a .plan .now)) (a .sought) (l .f) (l .left) (l .above) (l .at) (c .before .before .before .loop-test .taken) (c .before .before .if1 .left)
           (sym (c .before .is-lot .ensures) ∙ not-true _ (c .if2 .taken))),
       tt,
@@ -60,18 +55,18 @@ returns-2 c =
 record-at-requires : tie.Need-record-at-requires Inv-loop μ-loop
 record-at-requires c κs =
     let l = c .before .before .before .before .loop in
-    let s = c .before .before .before .before .before .before .before .before .before .before .before in
+    let s = c .before .before .before .before .before .before .before .before .before .before in
     (lot-within (s .args .first) (s .args .sheet .now) (l .above) (l .at) (s .pre .0) (sym (c .before .is-lot .ensures) ∙ not-false _ (c .if2 .left)), s .pre .0 .short)
 
 lot-inspections-requires : tie.Need-lot-inspections-requires Inv-loop μ-loop
 lot-inspections-requires c κs =
-    let s = c .before .before .before .before .before .before .before .before .before .before .before .before in
-    (s .pre .0, s .pre .1, c .before .before .before .before .before .before .before .before .before .sample-size .ensures)
+    let s = c .before .before .before .before .before .before .before .before .before .before .before in
+    (s .pre .0, s .pre .1, s .pre .2)
 
 returns-3 : tie.Need-returns-3 Inv-loop μ-loop
 returns-3 c =
     let l = c .before .before .before .before .before .before .before .before .loop in
-    let a = c .before .before .before .before .before .before .before .before .before .before .before .before .before .before .before .args in
+    let a = c .before .before .before .before .before .before .before .before .before .before .before .before .before .before .args in
     let r = c .before .before .before .record-at in
     let d = c .before .before .before .before in (
       sym (l .inv .2 ∙ next-lot (a .first) (a .sheet .now) (stages (a .plan .now)) (a .sought) (l .f) (l .left) (l .above) (l .at) (d .before .before .before .loop-test .taken) (d .before .before .if1 .left)
@@ -82,7 +77,7 @@ returns-3 c =
 -- the units of the lot
 lot-units : (c : tie.After-known-told Inv-loop μ-loop) → units (c .before .c .given .0 .0) ≤ 1000
 lot-units c =
-    let s = c .before .before .before .before .before .before .before .before .before .before .before .before .before .before .before .before in
+    let s = c .before .before .before .before .before .before .before .before .before .before .before .before .before .before .before in
     let l = c .before .before .before .before .before .before .before .before .before .loop in
     let r = c .before .before .before .before .record-at .result in
     omega (
@@ -93,7 +88,7 @@ lot-units c =
 
 with-lot-found-requires : tie.Need-with-lot-found-requires Inv-loop μ-loop
 with-lot-found-requires c κs =
-    let s = c .before .before .before .before .before .before .before .before .before .before .before .before .before .before .before .before in
+    let s = c .before .before .before .before .before .before .before .before .before .before .before .before .before .before .before in
     (lot-units c, omega (arith, lot-units c, s .pre .0 .short))
 
 -- what the office of the lot then holds is a word
@@ -102,7 +97,7 @@ count-lot-requires c κs =
     let l = c .before .before .before .before .before .before .before .before .before .before .before .before .loop in
     let r = c .before .before .before .before .before .before .before .record-at .result in
     let d = c .before .before .before in
-    let s = d .before .before .before .before .before .before .before .before .before .before .before .before .before .before .before .before in
+    let s = d .before .before .before .before .before .before .before .before .before .before .before .before .before .before .before in
     let n = an-office (r .value) in
     (l .inv .3 .sixteen, rw (c .units .ensures) (omega (arith, l .inv .3 .few (office (r .value)) n, lot-units d, s .pre .0 .short)))
 
@@ -110,7 +105,7 @@ loop-again : tie.Need-loop-again Inv-loop μ-loop
 loop-again c =
     let l = c .before .before .before .before .before .before .before .before .before .before .before .before .before .loop in
     let k = c .before .before .before .before in
-    let a = k .before .before .before .before .before .before .before .before .before .before .before .before .before .before .before .before .args in
+    let a = k .before .before .before .before .before .before .before .before .before .before .before .before .before .before .before .args in
     let r = k .before .before .before .before .record-at in
     let d = k .before .before .before .before .before in
     let w = k .before .c .given in
@@ -126,7 +121,7 @@ loop-again c =
 returns-4 : tie.Need-returns-4 Inv-loop μ-loop
 returns-4 c =
     let l = c .before .before .loop in
-    let a = c .before .before .before .before .before .before .before .before .before .args in (
+    let a = c .before .before .before .before .before .before .before .before .args in (
       sym (l .inv .2 ∙ no-lot (a .first) (a .sheet .now) (stages (a .plan .now)) (a .sought) (l .f) (l .left) (l .above) (l .at) (c .if3 .taken)),
       count-done _ _ (l .held) (l .f .used) (l .inv .3) (no-lots (a .first) (a .sheet .now) (l .left) (l .above) (l .at) (c .if3 .taken)),
     )
@@ -134,7 +129,7 @@ returns-4 c =
 returns-5 : tie.Need-returns-5 Inv-loop μ-loop
 returns-5 c =
     let l = c .before .before .loop in
-    let a = c .before .before .before .before .before .before .before .before .before .args in
+    let a = c .before .before .before .before .before .before .before .before .args in
     (sym (l .inv .2 ∙ none-left (a .first) (a .sheet .now) (stages (a .plan .now)) (a .sought) (l .f) (l .left) (l .above) (l .at) (omega (arith, c .before .loop-test .left)) (c .if3 .left)), tt)
 
 pub lots-spec : {M : Type 1} → statement M
@@ -143,7 +138,6 @@ lots-spec =
     (tie.spec
     Inv-loop
     μ-loop
-    sample-size-requires
     (λ c κs. search needs)
     (λ c κs. search needs)
     (λ c. search needs)

@@ -7,6 +7,7 @@ use mathlib.Core.List.{List}
 use borrow.Author.Needs.{needs}
 use borrow.Author.Tests.{leb-true, not-true, not-false}
 use Rattle.plan.specs.Plan.{stages, admitted}
+use Rattle.plan.proofs.Promise.{shape}
 use Rattle.sheet.specs.declared.chain.FreeChain.{FreeChain}
 use Rattle.sheet.specs.declared.chain.FreeChain.the-variants as free
 use Rattle.sheet.specs.declared.survey.Surveyed.{Surveyed}
@@ -46,22 +47,27 @@ plan-of-requires c κs =
     let s = c .before .before .before in
     (s .pre .0, few-stages (s .args .sheet .now) (s .pre .0) (header (s .args .first) (s .args .sheet .now) (header-is c) .plan))
 
+sample-size-requires : tie.Need-sample-size-requires
+sample-size-requires c κs =
+    let s = c .before .before .before .before in
+    rw (c .plan-of .ensures) (shape (plan-words (s .args .sheet .now)) (header (s .args .first) (s .args .sheet .now) (header-is (c .before)) .plan) .thousand-units)
+
 lots-requires : tie.Need-lots-requires
 lots-requires c κs =
-    let p = c .before in
+    let p = c .before .before in
     let s = p .before .before .before .before in
-    (sized (p .before), rw (p .plan-of .ensures) (header (s .args .first) (s .args .sheet .now) (header-is (p .before)) .plan), s .pre .2)
+    (sized (p .before), rw (p .plan-of .ensures) (header (s .args .first) (s .args .sheet .now) (header-is (p .before)) .plan), c .before .sample-size .ensures, s .pre .2)
 
 -- once the lots are walked: where they are, and what is found
 abbrev from-start : tie.After-lots → tie.Start
-from-start o = o .before .before .before .before .before .before
+from-start o = o .before .before .before .before .before .before .before
 
 lots-are : (o : tie.After-lots) →
     let a = from-start o .args in
     o .lots .result ≡ lots-survey (stages (plan-words (a .sheet .now))) (a .sought) nothing-found (read-lots (a .first) (a .sheet .now) (records (a .sheet .now)) 0 (word (a .sheet .now) first-lot))
 lots-are o =
     let a = from-start o .args in
-    o .lots .ensures .0 ∙ ap (λ (v : List ℕ). lots-survey (stages v) (a .sought) nothing-found (read-lots (a .first) (a .sheet .now) (records (a .sheet .now)) 0 (word (a .sheet .now) first-lot))) (o .before .before .plan-of .ensures)
+    o .lots .ensures .0 ∙ ap (λ (v : List ℕ). lots-survey (stages v) (a .sought) nothing-found (read-lots (a .first) (a .sheet .now) (records (a .sheet .now)) 0 (word (a .sheet .now) first-lot))) (o .before .before .before .plan-of .ensures)
 
 -- what the survey gives, by the lots and the free records
 by-both : (o : tie.After-lots) (v : Surveyed) → o .lots .result ≡ v → (k : FreeChain) →
@@ -70,7 +76,7 @@ by-both : (o : tie.After-lots) (v : Surveyed) → o .lots .result ≡ v → (k :
     by-walks (a .first) (a .sheet .now) v k ≡ survey-of (a .sought) (read-from (a .first) (a .sheet .now))
 by-both o v e k f =
     let a = from-start o .args in
-    by-code (a .first) (a .sheet .now) (a .sought) (header-is (o .before .before .before)) v (sym e ∙ lots-are o) k f
+    by-code (a .first) (a .sheet .now) (a .sought) (header-is (o .before .before .before .before)) v (sym e ∙ lots-are o) k f
 
 returns-2 : tie.Need-returns-2
 returns-2 c =
@@ -106,10 +112,11 @@ survey-spec =
     (λ c κs. search needs)
     returns
     plan-of-requires
+    sample-size-requires
     lots-requires
     (λ c. search needs)
     (λ c. search needs)
-    (λ c κs. sized (c .before .before .before .before .before .before))
+    (λ c κs. sized (c .before .before .before .before .before .before .before))
     (λ c. search needs)
     (λ c. search needs)
     (λ c κs. search needs)
