@@ -1,5 +1,5 @@
-// Offices and their shares of the records: which shares a sheet may have, and whether a record may be taken.
-// Document 02, change 7.
+// Offices and their shares of the records: which shares a sheet may have, what an office holds, and whether a
+// record may be taken. Document 02, change 7.
 use crate::freeing::depth_of;
 use crate::layout::FIRST_RECORD;
 use crate::layout::NEXT_UNUSED;
