@@ -1,5 +1,7 @@
 // For the programs that answer test cases: the lines of standard input, the fields and numbers of a line, and
 // the numbers of an answer.
+#![tactic(auto)]
+
 mod lines;
 pub mod print;
 
@@ -8,7 +10,7 @@ ghost use Rattle.std.specs.Prelude.{◌≤◌, length};
 pub use lines::{Input, next_line, start};
 
 // What is read at a place of a line: a number and the place after it, or no number that fits u32.
-#[derive(Drop)]
+#[derive(Clone, Copy)]
 pub enum Field {
     Number(u32, usize),
     Bad,

@@ -3,7 +3,7 @@ use libc::STDIN_FILENO;
 
 // The place of the next byte in the block and the number of bytes that came, the number of bytes of the
 // line that was read last, and whether the input ended instead.
-#[derive(Drop)]
+#[derive(Clone, Copy)]
 pub struct Input {
     pub at: usize,
     pub count: usize,
@@ -13,7 +13,7 @@ pub struct Input {
 
 // What a block has of a line: the place after it, the number of bytes of the line so far, and whether the
 // line ended.
-#[derive(Drop)]
+#[derive(Clone, Copy)]
 struct Piece {
     at: usize,
     line: usize,

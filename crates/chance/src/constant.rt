@@ -13,7 +13,7 @@ use crate::setting::Setting;
 
 // What is the same for all states: the weights of a marginal and of a bad unit, and what is added to the products,
 // by the scale of the divisor.
-#[derive(Drop)]
+#[derive(Clone, Copy)]
 pub struct Constant {
     pub marginal: u64,
     pub bad: u64,

@@ -2,6 +2,8 @@
 // on that of a lot of known size (document 02, change 2), and on the expected number of units (change 6).
 // They come by backward induction over layers: a layer has the value of each state that so many units can reach,
 // and stands in a run of words.
+#![tactic(auto)]
+
 mod acceptance;
 mod answers;
 mod backward;

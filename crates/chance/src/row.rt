@@ -162,7 +162,7 @@ fn draw_on(layer: &mut [u64], s: Setting, d: Reciprocal, y: usize, g: usize, fro
 }
 
 // The states of a row where inspection goes on, by their bad units: from `from` on and below `to`.
-#[derive(Drop)]
+#[derive(Clone, Copy)]
 pub struct Undecided {
     pub from: usize,
     pub to: usize,

@@ -7,7 +7,7 @@ use crate::mean::Weights;
 
 // The last rejection numbers; the value at acceptance (that at rejection is 0); the cost of each further unit;
 // the weights, which are constant or, where `left`, fall by one with each unit of their class; and the rounding.
-#[derive(Drop)]
+#[derive(Clone, Copy)]
 pub struct Setting {
     pub r1: usize,
     pub r2: usize,

@@ -9,7 +9,7 @@ use crate::decimal::{Number, read_number};
 use crate::fields::find;
 
 // How many numbers a line has; Bad if a field is no number, or there are more than a plan takes.
-#[derive(Drop)]
+#[derive(Clone, Copy)]
 pub enum Count {
     Numbers(usize),
     Bad,

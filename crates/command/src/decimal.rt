@@ -4,7 +4,7 @@ ghost use Rattle.commandmodel.specs.Decimal.{is_digit, number};
 ghost use Rattle.command.specs.Read.{as_number};
 
 // What a field is: a number, or none.
-#[derive(Drop)]
+#[derive(Clone, Copy)]
 pub enum Number {
     Value(u32),
     Bad,

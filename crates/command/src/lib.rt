@@ -1,4 +1,6 @@
 // The bytes of an input to replies on a sheet. Document 01, "Program lots".
+#![tactic(auto)]
+
 mod answering;
 mod arguments;
 mod decimal;

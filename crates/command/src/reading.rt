@@ -7,7 +7,7 @@ use crate::arguments::{Count, read_numbers};
 use crate::fields::find;
 
 // A command; of Fresh, how many numbers the plan has, which are in a list beside it.
-#[derive(Drop)]
+#[derive(Clone, Copy)]
 pub enum Command {
     Fresh(usize),
     Open(u32),

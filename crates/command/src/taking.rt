@@ -11,7 +11,7 @@ use crate::printing::put_bytes;
 use crate::replies::LONGEST_REPLY;
 
 // How many bytes were taken, are kept of the line that has not ended yet, and were printed.
-#[derive(Drop)]
+#[derive(Clone, Copy)]
 pub struct Taken {
     pub bytes: usize,
     pub line: usize,

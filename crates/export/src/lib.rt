@@ -1,6 +1,8 @@
 // The calls for C, and for every language that calls C: a static library. Each returns 0 where the call is
 // granted, else the number of document 01's table "Refused". A refusal leaves `out` alone. A slice passes as
 // a pointer and a length, and an array as a pointer.
+#![tactic(auto)]
+
 mod chances;
 mod lists;
 mod sheet_calls;

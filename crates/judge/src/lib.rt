@@ -1,5 +1,7 @@
 // Lists of classes judged four ways, and the event. Document 01, "Four ways to stop" and "Lists, events,
 // estimates".
+#![tactic(auto)]
+
 mod event;
 mod list;
 mod run;

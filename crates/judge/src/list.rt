@@ -8,7 +8,7 @@ use crate::stop::{Stop, before_full_stop, earliest_stop, semi_stop, stop_after, 
 use plan::{StageWay, Way};
 
 // The stops of the four ways, and the event at full's stop.
-#[derive(Drop)]
+#[derive(Clone, Copy)]
 pub struct Judgement {
     pub uncurtailed: Stop,
     pub semi: Stop,
@@ -17,7 +17,7 @@ pub struct Judgement {
     pub event: u32,
 }
 
-#[derive(Drop)]
+#[derive(Clone, Copy)]
 pub enum Judged {
     Stops(Judgement),
     Refused(u32),

@@ -12,7 +12,7 @@ use crate::run::{count_run, half};
 use plan::{Answer, Counts, StageWay, Way};
 
 // The answer and the units at the stop; GoOn and no units where the way does not stop.
-#[derive(Drop)]
+#[derive(Clone, Copy)]
 pub struct Stop {
     pub answer: Answer,
     pub counts: Counts,

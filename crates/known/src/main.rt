@@ -1,5 +1,7 @@
 // Runs the starred rows of document 01, "Known lots", through the code: a line of numbers for each row,
 // in the order of specs/Known.antt.
+#![tactic(auto)]
+
 mod print;
 
 use chance::BoundsAnswer;

@@ -1,5 +1,7 @@
 // The program of document 01, "Program lots": standard input to standard output, by crate `command`, on one
 // sheet.
+#![tactic(auto)]
+
 ghost use Rattle.std.specs.Prelude.{◌≡◌, ◌≤◌, length};
 ghost use Rattle.commandmodel.specs.Blocks.{most_kept};
 ghost use Rattle.commandmodel.specs.Printed.{longest_reply};
@@ -8,7 +10,7 @@ use libc::{STDIN_FILENO, STDOUT_FILENO};
 
 // What some input leaves: how many bytes of the line that has not ended yet are kept, and whether the
 // program ends.
-#[derive(Drop)]
+#[derive(Clone, Copy)]
 struct After {
     line: usize,
     end: bool,

@@ -19,7 +19,7 @@ use Rattle.plan.specs.Stopping.{at_filled, completed, at_stage, staged, earliest
 use Rattle.plan.specs.Promise.{SameStage, rank, Worse, More}
 use Rattle.plan.proofs.Order.{at_end_mono, Better, undecided, undecided_ranks, settled_mono, rejected}
 use Rattle.plan.proofs.Counting.{add_good, add_bad, added, more_taken, units_counts, units_taken}
-use Rattle.plan.proofs.Ends.{Each, each_end, each_both, first_mono, first_same, first_on, first_rejects, current_past, end_past, end_due, end_case}
+use Rattle.plan.proofs.Ends.{RejectsFrom, Each, each_end, each_both, first_mono, first_same, first_on, first_rejects, current_past, end_past, end_due, end_case}
 use Rattle.plan.proofs.Limits.{Limits}
 
 -- ---- within a stage
@@ -94,7 +94,7 @@ module _ (p : List Stage) (l : Limits p) (c : Counts) (n : units c ≤ total p) 
   unfolding completed
   completed_rejects class =
       first_rejects (units c) (at_filled class c) 0 p
-      (each_both _ _ _ (λ end s a b. (end_past class c end s, at_last class end s a b)) 0 p l.at_most1 l.at_most2)
+      (each_both (λ end s. s.reject1 ≤ last_reject1 p) (λ end s. s.reject2 ≤ last_reject2 p) (RejectsFrom (units c) (at_filled class c)) (λ end s a b. (end_past class c end s, at_last class end s a b)) 0 p l.at_most1 l.at_most2)
       (inr l.some_stage) (omega arith)
 
   pub rejects : earliest p c ≡ Reject

@@ -26,6 +26,7 @@ module _ {A : Type 0} (refuse : ℕ → A) (granted : A) (apart : (m n : ℕ) �
 module _ {A : Type 0} (refuse : ℕ → A) (g : A) where
   pub refuses : (rows : List Refusal) (n : ℕ) → First rows n → first_refusal refuse rows g ≡ refuse n
   unfolding first_refusal
+  refuses [] n x' = elim x' [ ]
   refuses (r ∷ rest) n (inl f) = rw f.0 (ap refuse f.1)
   refuses (r ∷ rest) n (inr f) = rw f.0 (refuses rest n f.1)
 
@@ -53,6 +54,7 @@ either (r ∷ rest) = go r.when refl (either rest)
 -- ---- rows in two parts
 
 pub first_append : (rows rest : List Refusal) (n : ℕ) → First rows n → First (rows ++ rest) n
+first_append [] rest n x' = elim x' [ ]
 first_append (r ∷ rows) rest n (inl f) = inl f
 first_append (r ∷ rows) rest n (inr f) = inr (f.0, first_append rows rest n f.1)
 
@@ -89,10 +91,12 @@ module _ (from : ℕ) (r : Refusal) (rest : List Refusal) (e : in_order from (r 
 
 -- a row that applies has a place from `from` on
 applies_after : (from m : ℕ) (rows : List Refusal) → in_order from rows ≡ true → Applies rows m → from ≤ place m
+applies_after from m [] e x'' = elim x'' [ ]
 applies_after from m (r ∷ rest) e (inl a) = omega (arith, ap place a.1, after_from from r rest e)
 applies_after from m (r ∷ rest) e (inr a) = omega (arith, after_from from r rest e, applies_after (place r.number + 1) m rest (later from r rest e) a)
 
 none_before : (from n m : ℕ) (rows : List Refusal) → in_order from rows ≡ true → First rows n → Applies rows m → place n ≤ place m
+none_before from n m [] e x3 _ = elim x3 [ ]
 none_before from n m (r ∷ rest) e (inl f) (inl a) = omega (arith, ap place f.1, ap place a.1)
 none_before from n m (r ∷ rest) e (inl f) (inr a) =
     omega (arith, ap place f.1, applies_after (place r.number + 1) m rest (later from r rest e) a)
@@ -104,6 +108,7 @@ zero_place : place 0 ≡ length table
 zero_place = refl
 
 never_first : (from : ℕ) (rows : List Refusal) → in_order from rows ≡ true → First rows 0 → ⊥
+never_first from [] e x'' = elim x'' [ ]
 never_first from (r ∷ rest) e (inl f) = omega (arith, ap place f.1, zero_place, in_table from r rest e)
 never_first from (r ∷ rest) e (inr f) = never_first (place r.number + 1) rest (later from r rest e) f.1
 

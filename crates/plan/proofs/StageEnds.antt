@@ -23,6 +23,7 @@ use Rattle.plan.proofs.CountLaws.{undecided_within}
 -- no end comes before the stages
 later : (before : ℕ) (p : List Stage) (e : ℕ) → End before p e → before ≤ e
 unfolding End
+later before [] e x' = elim x' [ ]
 later before (s ∷ rest) e (inl h) = omega arith
 later before (s ∷ rest) e (inr m) = omega (arith, later (before + s.size) rest e m)
 
@@ -87,6 +88,7 @@ end_from_is p some y l = let t = next_end y 0 p (inr some) (omega arith) in (t.f
 -- every end is within S units
 ends_within : (before : ℕ) (p : List Stage) (e : ℕ) → End before p e → e ≤ before + total p
 unfolding End total
+ends_within before [] e x' = elim x' [ ]
 ends_within before (s ∷ rest) e (inl h) = omega arith
 ends_within before (s ∷ rest) e (inr m) = omega (arith, ends_within (before + s.size) rest e m)
 

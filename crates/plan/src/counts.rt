@@ -5,7 +5,7 @@ ghost use Rattle.plan.specs.Counts.{units, no_units, add_units};
 // The highest class that a unit may have.
 pub const HIGHEST_CLASS: u32 = 3;
 
-#[derive(Drop)]
+#[derive(Clone, Copy)]
 pub struct Counts {
     pub good: u32,
     pub marginal: u32,

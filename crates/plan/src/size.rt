@@ -17,7 +17,7 @@ pub fn sample_size(plan: &[u32]) -> u32
 }
 
 // The stage ends on both sides of y units.
-#[derive(Drop)]
+#[derive(Clone, Copy)]
 struct Ends {
     below: u32,
     from: u32,

@@ -11,7 +11,7 @@ use crate::counts::Counts;
 const NOT_PERMITTED: u32 = 4294967295;
 
 // What a stopping rule answers to the units so far.
-#[derive(Drop)]
+#[derive(Clone, Copy)]
 pub enum Answer {
     GoOn,
     Accept,

@@ -14,7 +14,7 @@ use crate::record::{field_of, record_at};
 use plan::Counts;
 
 // A chain of inspections: damaged, or whole, with its units and the blanks among them.
-#[derive(Drop)]
+#[derive(Clone, Copy)]
 pub enum Chain {
     Corrupt,
     Whole(Counts, u32),
@@ -22,14 +22,14 @@ pub enum Chain {
 
 // The newer inspections of a chain: damaged, or whole, with their units, the blanks among them and
 // the record after them.
-#[derive(Drop)]
+#[derive(Clone, Copy)]
 pub enum Part {
     Corrupt,
     Whole(Counts, u32, u32),
 }
 
 // The chain of free records: damaged, or whole, with their number.
-#[derive(Drop)]
+#[derive(Clone, Copy)]
 pub enum FreeChain {
     Corrupt,
     Whole(u32),

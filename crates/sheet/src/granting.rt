@@ -13,7 +13,7 @@ use crate::offices::may_take;
 use crate::record::{field_of, record_count};
 
 // A record that is needed: refused, or granted.
-#[derive(Drop)]
+#[derive(Clone, Copy)]
 pub enum Grant {
     Refused(u32),
     Record,

@@ -1,5 +1,7 @@
 // A sheet: many lots in inspection on one borrowed run of words. Document 01, "Sheet". What the calls do is defined in crate
 // `sheetmodel`.
+#![tactic(auto)]
+
 mod chain;
 mod closing;
 mod estimating;

@@ -12,7 +12,7 @@ use crate::size::size_ok;
 use crate::survey::{Found, Surveyed, survey};
 
 // Refused, or what is found for the number.
-#[derive(Drop)]
+#[derive(Clone, Copy)]
 pub enum Located {
     Refused(u32),
     At(Found),

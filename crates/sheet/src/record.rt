@@ -5,7 +5,7 @@ ghost use Rattle.sheet.specs.Survey.{record_at};
 
 // The four words of a record: of a lot number, next lot, newest inspection and 0; of an inspection
 // class, next older, its lot's record and serial; of a free record depth, next free, 0 and a tag.
-#[derive(Drop)]
+#[derive(Clone, Copy)]
 pub struct Record {
     pub value: u32,
     pub next: u32,

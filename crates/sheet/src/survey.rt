@@ -19,7 +19,7 @@ use plan::Counts;
 // What is found for a lot's number: its record, its units and the blanks among them, 0 and none where
 // it is not on the sheet; the record before it, whose next lot it is or would be; and the records that
 // all lots and their inspections use.
-#[derive(Drop)]
+#[derive(Clone, Copy)]
 pub struct Found {
     pub used: u32,
     pub before: u32,
@@ -28,7 +28,7 @@ pub struct Found {
     pub counts: Counts,
 }
 
-#[derive(Drop)]
+#[derive(Clone, Copy)]
 pub enum Surveyed {
     Corrupt,
     Intact(Found),

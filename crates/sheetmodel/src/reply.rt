@@ -2,14 +2,14 @@
 use plan::Answer;
 
 // Fresh, open, inspect, strike and close.
-#[derive(Drop)]
+#[derive(Clone, Copy)]
 pub enum Done {
     Ok,
     Refused(u32),
 }
 
 // What a lot shows. The blanks are among the marginal units.
-#[derive(Drop)]
+#[derive(Clone, Copy)]
 pub struct Shown {
     pub answer: Answer,
     pub units: u32,
@@ -19,14 +19,14 @@ pub struct Shown {
     pub blanks: u32,
 }
 
-#[derive(Drop)]
+#[derive(Clone, Copy)]
 pub enum Looked {
     Shown(Shown),
     Refused(u32),
 }
 
 // The totals over the closed lots.
-#[derive(Drop)]
+#[derive(Clone, Copy)]
 pub struct Totals {
     pub accepted: u32,
     pub rejected: u32,
@@ -35,14 +35,14 @@ pub struct Totals {
     pub bad: u32,
 }
 
-#[derive(Drop)]
+#[derive(Clone, Copy)]
 pub enum Tallied {
     Totals(Totals),
     Refused(u32),
 }
 
 // Of each class, the units that count, and how many these are; at least one.
-#[derive(Drop)]
+#[derive(Clone, Copy)]
 pub struct Estimate {
     pub good: u64,
     pub marginal: u64,
@@ -50,7 +50,7 @@ pub struct Estimate {
     pub over: u64,
 }
 
-#[derive(Drop)]
+#[derive(Clone, Copy)]
 pub enum Estimated {
     Estimate(Estimate),
     Refused(u32),

@@ -2,7 +2,7 @@
 use crate::print;
 
 // START, and by how much each further word is more, modulo 2^32.
-#[derive(Drop)]
+#[derive(Clone, Copy)]
 struct Values {
     start: u32,
     step: u32,

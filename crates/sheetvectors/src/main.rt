@@ -1,5 +1,7 @@
 // Answers each command line of standard input by one line on standard output. The commands work on
 // one sheet; tests/reference/lines/sheet_lines.rs describes them.
+#![tactic(auto)]
+
 mod calls;
 mod fill;
 mod print;

@@ -27,7 +27,7 @@ fn floats(answer: ChartAnswer)
 }
 
 // Which call a case is about.
-#[derive(Drop)]
+#[derive(Clone, Copy)]
 pub enum Call {
     Chance,
     Chart,

@@ -1,0 +1,23 @@
+use Prim.Native.Nat.{◌+◌}
+use native.Mathlib.Omega.{arith}
+use mathlib.Core.Path.{◌≡◌}
+use lib.ListN.{length}
+use borrow.Author.Rules.{rules}
+use Rattle.plan.specs.Plan.{stages, total}
+use Rattle.plan.proofs.Stages.{total_none, total_more}
+use Rattle.plan.proofs.size.sample_size.Goals as goal
+
+pub overflow_add-units : goal.overflow_add-units
+overflow_add-units c =
+    let l = c.loop-rest in
+    omega (arith, l.invariant, c.requires, total_more l.rest.now c.loop-rest-test.true)
+
+pub loop-rest-preserved : goal.loop-rest-preserved
+loop-rest-preserved c =
+    let l = c.loop-rest in
+    omega (arith, l.invariant, total_more l.rest.now c.loop-rest-test.true)
+
+pub returns : goal.returns
+returns c =
+    let l = c.loop-rest in
+    omega (arith, l.invariant, total_none l.rest.now c.loop-rest-test.false)
