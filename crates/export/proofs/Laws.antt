@@ -15,7 +15,7 @@ use Rattle.sheetmodel.specs.Layout.{word}
 use Rattle.sheetmodel.specs.Reply.{done_reply, look_reply, tally_reply, estimate_reply}
 use Rattle.sheetmodel.specs.Estimate.{estimate}
 use Rattle.sheetmodel.proofs.Demand1.{demand_1}
-use Rattle.sheetmodel.proofs.Estimate.{estimate_laws}
+use Rattle.sheetmodel.proofs.Estimates.{estimate_laws}
 use Rattle.judge.proofs.Laws.{refused_rightly}
 use Rattle.chance.proofs.Laws.{refusal_law, lot_refusal_law, units_refusal_law}
 use Rattle.export.specs.Returned.{number, left}

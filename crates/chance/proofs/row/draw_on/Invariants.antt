@@ -1,0 +1,14 @@
+-- `chance::draw_on` meets its contract: as `go_on` does. Assumes nothing.
+use Prim.Native.Nat.{◌+◌, ◌-◌, ◌≤◌}
+use mathlib.Core.Path.{◌≡◌, ◌∙◌}
+use native.Mathlib.Omega.{arith}
+use Rattle.chance.specs.Layer.{rounding, FurtherTo}
+use Rattle.chance.proofs.States.{mean_at_most, further_is}
+use Rattle.chance.proofs.InRow.{row_room, further_none, further_more, further_all, reading, turn}
+use Rattle.chance.proofs.row.draw_on.Given as goal
+
+abbrev pub invariant-loop-b : goal.invariant-loop-b
+invariant-loop-b l = FurtherTo l.s l.y l.g l.from l.to l.initial.layer l.layer l.bad l.b
+
+abbrev pub decreases-loop-b : goal.decreases-loop-b
+decreases-loop-b l = l.b

@@ -1,0 +1,29 @@
+use Prim.Native.Nat.{◌-◌, ◌≤◌}
+use mathlib.Core.Path.{◌≡◌, sym, ◌∙◌}
+use mathlib.Core.Logic.{⊎_elim}
+use mathlib.Core.Bool.{◌&&◌, and-true}
+use lib.ListN.{length, drop, drop_of_length-le}
+use lib.Dec.{leb}
+use borrow.Author.Rules.{rules}
+use Rattle.plan.specs.Sample.{highest_class, are_classes}
+use Rattle.plan.proofs.Sample.{classing}
+use Rattle.judge.proofs.Along.{class_greater, class_no_greater}
+use Rattle.judge.proofs.list.are_classes.Goals as goal
+
+pub loop-i-preserved : goal.loop-i-preserved
+loop-i-preserved c =
+    let l = c.loop-i in
+    let xs = c.args.list.now in
+    let h = c.loop-i-test.true in (
+      search rules,
+      l.invariant.1 ∙ ⊎_elim
+          (λ w. rw w.2 (class_greater xs l.i l.greatest h w.0.taken))
+          (λ w. rw w.1 (class_no_greater xs l.i l.greatest h w.0.left))
+          c.if-greatest-list.branch,
+    )
+
+pub returns : goal.returns
+returns c =
+    let l = c.loop-i in
+    let xs = c.args.list.now in
+    sym (l.invariant.1 ∙ rw (drop_of_length-le xs c.loop-i-test.false, classing.none_tested) (and-true (leb l.greatest highest_class)))

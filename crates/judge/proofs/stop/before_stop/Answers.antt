@@ -1,0 +1,78 @@
+use Prim.Native.Nat.{ℕ, ◌+◌, ◌-◌}
+use native.Mathlib.Omega.{arith}
+use mathlib.Core.Path.{◌≡◌, sym, ap, ◌∙◌}
+use borrow.Author.Rules.{rules}
+use Rattle.plan.specs.Counts.{units, counts_after}
+use Rattle.plan.proofs.Promise.{shape}
+use Rattle.judge.specs.Run.{goes_on, Between}
+use Rattle.judge.proofs.Runs.{run, run_length}
+use Rattle.judge.proofs.Halves.{is_on, Halved, halved, stop_found}
+use Rattle.judge.proofs.stop.before_stop.Goals as goal
+
+pub loop-high-init : goal.loop-high-init
+loop-high-init c = (c.units-low.ensures, c.requires.1)
+
+pub count_run-d-requires : goal.count_run-d-requires
+count_run-d-requires c =
+    let l = c.loop-high in
+    let t = l.invariant.1 in
+    let xs = c.args.list.now in
+    let h = c.half in
+    omega (arith, run_length xs l.low (l.low + h.result) (omega arith) (omega (arith, t.within)), t.thousand)
+
+pub answer-requires : goal.answer-requires
+answer-requires c =
+    let middle : Halved c.args.plan.now c.args.way c.args.list.now c.loop-high.c c.loop-high.high (c.loop-high.low + c.half.result) c.count_run-d.result = let s = c.args in
+    let l = c.loop-high in
+    let m = l.low + c.half.result in
+    halved s.plan.now s.way s.list.now l.c l.high l.invariant.1 m (omega (arith, l.invariant.0)) (omega (arith, l.invariant.0)) c.count_run-d.result
+    (c.count_run-d.ensures ∙ ap (λ (n : ℕ). counts_after l.c (run s.list.now n m)) l.invariant.0) in
+    let l = c.loop-high in
+    ((shape c.args.plan.now c.requires.0).thousand_units, omega (arith, (middle).units, l.invariant.1.thousand))
+
+pub loop-high-preserved-then-goes_on : goal.loop-high-preserved-then-goes_on
+loop-high-preserved-then-goes_on c =
+    let middle : Halved c.args.plan.now c.args.way c.args.list.now c.loop-high.c c.loop-high.high (c.loop-high.low + c.half.result) c.count_run-d.result = let s = c.args in
+    let l = c.loop-high in
+    let m = l.low + c.half.result in
+    halved s.plan.now s.way s.list.now l.c l.high l.invariant.1 m (omega (arith, l.invariant.0)) (omega (arith, l.invariant.0)) c.count_run-d.result
+    (c.count_run-d.ensures ∙ ap (λ (n : ℕ). counts_after l.c (run s.list.now n m)) l.invariant.0) in
+    let h = middle in
+    (sym h.units, h.later (sym c.answer.ensures ∙ is_on _ (sym c.goes_on.ensures ∙ c.if-goes_on.true)))
+
+pub loop-high-preserved : goal.loop-high-preserved
+loop-high-preserved c =
+    let middle : Halved c.args.plan.now c.args.way c.args.list.now c.loop-high.c c.loop-high.high (c.loop-high.low + c.half.result) c.count_run-d.result = let s = c.args in
+    let l = c.loop-high in
+    let m = l.low + c.half.result in
+    halved s.plan.now s.way s.list.now l.c l.high l.invariant.1 m (omega (arith, l.invariant.0)) (omega (arith, l.invariant.0)) c.count_run-d.result
+    (c.count_run-d.ensures ∙ ap (λ (n : ℕ). counts_after l.c (run s.list.now n m)) l.invariant.0) in
+    let h = middle in
+    let l = c.loop-high in
+    (l.invariant.0, h.sooner (ap goes_on (sym c.answer.ensures) ∙ sym c.goes_on.ensures ∙ c.if-goes_on.false))
+
+pub returns : goal.returns
+returns c =
+    let l = c.loop-high in
+    stop_found c.args.plan.now c.args.way c.args.list.now c.requires.0 l.c l.high l.invariant.1 (omega (arith, l.invariant.0))
+
+pub units-low-requires : goal.units-low-requires
+units-low-requires c = let t = c.requires.1 in omega (arith, t.apart, t.thousand)
+
+pub overflow_sub-high : goal.overflow_sub-high
+overflow_sub-high c = omega (arith, c.loop-high.invariant.1.apart)
+
+pub overflow_sub-high-in-loop-high : goal.overflow_sub-high-in-loop-high
+overflow_sub-high-in-loop-high c = omega (arith, c.loop-high.invariant.1.apart)
+
+pub half-requires : goal.half-requires
+half-requires c = omega (arith, c.loop-high.invariant.1.thousand)
+
+pub overflow_add-middle : goal.overflow_add-middle
+overflow_add-middle c = omega (arith, c.loop-high.invariant.1.thousand)
+
+pub slice_bounds-count_run-start : goal.slice_bounds-count_run-start
+slice_bounds-count_run-start c = omega (arith, c.loop-high.invariant.1.within)
+
+pub slice_bounds-count_run-end : goal.slice_bounds-count_run-end
+slice_bounds-count_run-end c = omega (arith, c.loop-high.invariant.1.within)
