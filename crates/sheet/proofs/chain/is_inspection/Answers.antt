@@ -1,0 +1,41 @@
+-- `sheet::is_inspection` meets its contract: one test after the other. Assumes nothing.
+use borrow.Author.Rules.{rules}
+use borrow.Author.Tests.{le-leb, lt-leb, eq-eqb, ne_eqb, not-true, not-false}
+use mathlib.Core.Path.{ap, sym, ◌∙◌}
+use Rattle.sheet.proofs.Used.{record_within, value, link, tag}
+use Rattle.sheet.proofs.chain.is_inspection.Goals as goal
+
+pub returns-then-not-is_used : goal.returns-then-not-is_used
+returns-then-not-is_used c = rw (sym c.is_used.ensures ∙ c.if-not-is_used.true)
+
+record-at-requires c κs =
+    let s = c.before.before.before in
+    (record_within s.args.first s.args.sheet.now s.args.at s.requires (sym c.before.is-used.ensures ∙ not-false _ c.if1.false), s.requires.short)
+
+pub returns-then-r-gt-HIGHEST_CLASS : goal.returns-then-r-gt-HIGHEST_CLASS
+returns-then-r-gt-HIGHEST_CLASS c =
+    rw (
+      sym c.is_used.ensures ∙ c.if-not-is_used.false,
+      lt-leb _ _ (rw (ap value c.record_at-r.ensures) at c.if-r-gt-HIGHEST_CLASS.true),
+    )
+
+pub returns-then-r-lot : goal.returns-then-r-lot
+returns-then-r-lot c =
+    rw (
+      sym c.is_used.ensures ∙ c.if-not-is_used.false,
+      le-leb _ _ (rw (ap value c.record_at-r.ensures) at c.if-r-gt-HIGHEST_CLASS.false),
+      ne_eqb _ _ (rw (ap link c.record_at-r.ensures) at c.if-r-lot.true),
+    )
+
+pub returns : goal.returns
+returns c =
+    rw (
+      sym c.is_used.ensures ∙ c.if-not-is_used.false,
+      le-leb _ _ (rw (ap value c.record_at-r.ensures) at c.if-r-gt-HIGHEST_CLASS.false),
+      eq-eqb _ _ (rw (ap link c.record_at-r.ensures) at c.if-r-lot.false),
+      ap tag c.record_at-r.ensures,
+    )
+
+{- MANUAL
+record-at-requires : tie.Need-record-at-requires
+-}

@@ -1,0 +1,30 @@
+-- `sheet::grant_record` meets its contract: rows 11 and 19. Assumes nothing.
+use mathlib.Core.Path.{◌≡◌, refl, sym, ◌∙◌}
+use mathlib.Core.Bool.{false}
+use mathlib.Core.Logic.{inl, inr}
+use borrow.Author.Rules.{rules}
+use Rattle.sheetmodel.specs.Rows.{record_rows}
+use Rattle.sheetmodel.specs.Calls.{full, held_back}
+use Rattle.sheet.proofs.GrantFacts.{denying, giving}
+use Rattle.sheet.proofs.OfficeSteps.{sized_its}
+use Rattle.sheet.proofs.granting.grant_record.Goals as goal
+
+pub is_full-requires : goal.is_full-requires
+is_full-requires c = (sized_its c.args.sheet.now c.requires.0).long
+
+pub returns-then-is_full : goal.returns-then-is_full
+returns-then-is_full c =
+    let a = c.args in
+    sym (denying (record_rows (full a.sheet.now) (held_back a.lot a.sheet.now)) 11 (inl (sym c.is_full.ensures ∙ c.if-is_full.true, refl)))
+
+pub returns-then-not-may_take : goal.returns-then-not-may_take
+returns-then-not-may_take c =
+    let not_full : full c.args.sheet.now ≡ false = sym c.is_full.ensures ∙ c.if-is_full.false in
+    let a = c.args in
+    sym (denying (record_rows (full a.sheet.now) (held_back a.lot a.sheet.now)) 19 (inr (not_full, inl (rw (← c.may_take.ensures) c.if-not-may_take.true, refl))))
+
+pub returns : goal.returns
+returns c =
+    let not_full : full c.args.sheet.now ≡ false = sym c.is_full.ensures ∙ c.if-is_full.false in
+    let a = c.args in
+    sym (giving (record_rows (full a.sheet.now) (held_back a.lot a.sheet.now)) (not_full, (rw (← c.may_take.ensures) c.if-not-may_take.false, tt)))

@@ -1,0 +1,34 @@
+-- `sheet::locate_lot_and_count` meets its contract: no lot is in record 0. Assumes nothing.
+use mathlib.Core.Path.{sym, ◌∙◌}
+use borrow.Author.Rules.{rules}
+use Rattle.sheet.proofs.LocatedFacts.{still_refused, whole, not_there, there}
+use Rattle.sheet.proofs.locating.locate_lot_and_count.Goals as goal
+
+pub returns-then-f-eq0 : goal.returns-then-f-eq0
+returns-then-f-eq0 c =
+    let f = c.f-1.given in
+    let a = c.args in
+    record {
+      value = sym (not_there a.lot a.sheet.now f.0.0 (whole a.lot a.sheet.now f.0.0 (sym c.locate_and_count.ensures.value ∙ f.1)) c.if-f-eq0.true);
+      counted_on = tt;
+    }
+
+pub returns-in-Refused : goal.returns-in-Refused
+returns-in-Refused c =
+    let n = c.n-1.given in
+    let a = c.args in
+    record {
+      value = sym (still_refused a.lot a.sheet.now n.0.0 (sym c.locate_and_count.ensures.value ∙ n.1));
+      counted_on = tt;
+    }
+
+pub returns-else-f-eq0 : goal.returns-else-f-eq0
+returns-else-f-eq0 c =
+    let f = c.f-1.given in
+    let a = c.args in record {
+      value = sym (there a.lot a.sheet.now f.0.0 (whole a.lot a.sheet.now f.0.0 (sym c.locate_and_count.ensures.value ∙ f.1)) c.if-f-eq0.false);
+      counted_on = rw f.1 at c.locate_and_count.ensures.counted_on;
+    }
+
+pub locate_and_count-requires : goal.locate_and_count-requires
+locate_and_count-requires c = c.requires

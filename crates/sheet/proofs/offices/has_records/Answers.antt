@@ -1,0 +1,6 @@
+-- `sheet::has_records` meets its contract. Assumes nothing.
+use borrow.Author.Rules.{rules}
+use Rattle.sheet.proofs.offices.has_records.Goals as goal
+
+pub returns : goal.returns
+returns c = rw c.record_count.ensures
