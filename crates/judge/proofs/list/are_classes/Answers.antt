@@ -9,6 +9,7 @@ use Rattle.plan.specs.Sample.{highest_class, are_classes}
 use Rattle.plan.proofs.Sample.{classing}
 use Rattle.judge.proofs.Along.{class_greater, class_no_greater}
 use Rattle.judge.proofs.list.are_classes.Goals as goal
+use Rattle.judge.proofs.list.are_classes.Goals.{then-greatest-list, else-greatest-list}
 
 pub loop-i-preserved : goal.loop-i-preserved
 loop-i-preserved c =
@@ -16,10 +17,10 @@ loop-i-preserved c =
     let xs = c.args.list.now in
     let h = c.loop-i-test.true in (
       search rules,
-      l.invariant.1 ∙ ⊎_elim
-          (λ w. rw w.2 (class_greater xs l.i l.greatest h w.0.taken))
-          (λ w. rw w.1 (class_no_greater xs l.i l.greatest h w.0.left))
-          c.if-greatest-list.branch,
+      l.invariant.1 ∙ elim c.if-greatest-list.branch [
+        then-greatest-list w ↦ rw w.greatest-is (class_greater xs l.i l.greatest h w.if-greatest-list.true)
+      | else-greatest-list w ↦ rw w.greatest-is (class_no_greater xs l.i l.greatest h w.if-greatest-list.false)
+      ],
     )
 
 pub returns : goal.returns
