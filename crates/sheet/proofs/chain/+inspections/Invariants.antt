@@ -15,4 +15,4 @@ use Rattle.sheet.proofs.ChainSteps.{newer_chain, newer_units as units-of-newer, 
 use Rattle.sheet.proofs.chain.+inspections.Given as goal
 
 abbrev pub decreases-inspections : goal.decreases-inspections
-decreases-inspections l = l.first.1.1.1.0
+decreases-inspections l = l.serial

@@ -22,10 +22,10 @@ returns-then-not-is_inspection c =
     let l = c.loop-left in
     sym (l.invariant.3 ∙ newer_cut a.first a.sheet.now a.lot a.stop l.left l.next _ l.blanks c.loop-left-test.true (sym c.is_inspection.ensures ∙ c.if-not-is_inspection.true))
 
-record-at-requires c κs =
-    let s = c.before.before.before.before.before in
-    let l = c.before.before.before.loop in
-    (inspection_within s.args.first s.args.sheet.now s.args.lot l.left l.next s.requires.0 (sym c.before.is_inspection.ensures ∙ not-false _ c.if1.false), s.requires.0.short)
+pub record_at-r-requires : goal.record_at-r-requires
+record_at-r-requires c =
+    let l = c.loop-left in
+    (inspection_within c.args.first c.args.sheet.now c.args.lot l.left l.next c.requires.0 (sym c.is_inspection.ensures ∙ c.if-not-is_inspection.false), c.requires.0.short)
 
 pub overflow_add-sum : goal.overflow_add-sum
 overflow_add-sum c =
@@ -123,7 +123,3 @@ overflow_sub-bad c =
 
 pub overflow_sub-c : goal.overflow_sub-c
 overflow_sub-c c = omega (arith, c.requires.2)
-
-{- MANUAL
-record-at-requires : tie.Need-record-at-requires invariant-loop decreases-loop
--}

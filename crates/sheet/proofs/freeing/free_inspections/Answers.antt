@@ -37,4 +37,6 @@ pub shape_of-sheet : goal.shape_of-sheet
 shape_of-sheet c = c.loop-left.invariant.1
 
 pub returns : goal.returns
-returns c = left_done c.loop-left.invariant.0 c.loop-left-test.false
+returns c =
+    let done = left_done c.loop-left.invariant.0 c.loop-left-test.false in
+    record { freeing_2 = done.0; sheet_after = done.1 }

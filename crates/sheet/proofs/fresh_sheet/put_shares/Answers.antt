@@ -8,11 +8,11 @@ use Rattle.sheetmodel.specs.Layout.{shares_start, offices, word}
 use Rattle.sheet.proofs.fresh_sheet.put_shares.Goals as goal
 
 pub loop-o-init : goal.loop-o-init
-loop-o-init c = (omega arith, refl, paste-zero c.args.sheet.now shares_start c.args.t2)
+loop-o-init c = (omega arith, refl, paste-zero c.args.sheet.now shares_start c.args.shares)
 
 pub bounds-shares-o : goal.bounds-shares-o
 bounds-shares-o c =
-    let sixteen : length c.args.t2 ≡ offices = c.well-formed.1.0.1.0.1 in
+    let sixteen : length c.args.shares ≡ offices = omega arith in
     omega (arith, sixteen)
 
 pub bounds-sheet-o : goal.bounds-sheet-o
@@ -20,10 +20,10 @@ bounds-sheet-o c = omega (arith, c.requires, c.loop-o.invariant.1)
 
 pub loop-o-preserved : goal.loop-o-preserved
 loop-o-preserved c =
-    let sixteen : length c.args.t2 ≡ offices = c.well-formed.1.0.1.0.1 in
+    let sixteen : length c.args.shares ≡ offices = omega arith in
     let l = c.loop-o in
     let d : List ℕ = c.args.sheet.now in
-    let shares : List ℕ = c.args.t2 in (
+    let shares : List ℕ = c.args.shares in (
       omega arith,
       length-set l.sheet (shares_start + l.o) _ ∙ l.invariant.1,
       ap (λ (v : List ℕ). set v (shares_start + l.o) (word shares l.o)) l.invariant.2 ∙
@@ -36,10 +36,10 @@ shape_of-sheet c = c.loop-o.invariant.1
 
 pub returns : goal.returns
 returns c =
-    let sixteen : length c.args.t2 ≡ offices = c.well-formed.1.0.1.0.1 in
+    let sixteen : length c.args.shares ≡ offices = omega arith in
     let l = c.loop-o in
     let all : l.o ≡ offices = omega (arith, l.invariant.0, c.loop-o-test.false) in
     record {
       shares_len = sixteen;
-      sheet_after = l.invariant.2 ∙ ap (paste c.args.sheet.now shares_start c.args.t2) all;
+      sheet_after = l.invariant.2 ∙ ap (paste c.args.sheet.now shares_start c.args.shares) all;
     }

@@ -21,10 +21,10 @@ pub returns-then-not-may_take : goal.returns-then-not-may_take
 returns-then-not-may_take c =
     let not_full : full c.args.sheet.now ≡ false = sym c.is_full.ensures ∙ c.if-is_full.false in
     let a = c.args in
-    sym (denying (record_rows (full a.sheet.now) (held_back a.lot a.sheet.now)) 19 (inr (not_full, inl (rw (← c.may_take.ensures) c.if-not-may_take.true, refl))))
+    sym (denying (record_rows (full a.sheet.now) (held_back a.lot a.sheet.now)) 19 (inr (not_full, inl (rw (← c.may_take.ensures) (rw c.if-not-may_take.true refl), refl))))
 
 pub returns : goal.returns
 returns c =
     let not_full : full c.args.sheet.now ≡ false = sym c.is_full.ensures ∙ c.if-is_full.false in
     let a = c.args in
-    sym (giving (record_rows (full a.sheet.now) (held_back a.lot a.sheet.now)) (not_full, (rw (← c.may_take.ensures) c.if-not-may_take.false, tt)))
+    sym (giving (record_rows (full a.sheet.now) (held_back a.lot a.sheet.now)) (not_full, (rw (← c.may_take.ensures) (rw c.if-not-may_take.false refl), tt)))

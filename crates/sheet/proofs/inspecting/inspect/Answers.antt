@@ -11,68 +11,85 @@ use Rattle.sheetmodel.specs.Layout.{plan_words}
 use Rattle.sheetmodel.specs.Read.{undecided}
 use Rattle.sheet.specs.declared.survey.Found.{Found}
 use Rattle.sheet.proofs.LocatedFacts.{WithLot, with_lot, lot_whole_sheet}
-use Rattle.sheet.proofs.CallSteps.{answer-requires, few, inspect_refused, inspect_class, inspect_decided, inspect_denied, inspect-requires, inspect_granted}
+use Rattle.sheet.proofs.CallSteps.{answer_requires, few, inspect_refused, inspect_class, inspect_decided, inspect_denied, inspect_requires, inspect_granted}
 use Rattle.sheet.proofs.inspecting.inspect.Goals as goal
 
 -- the arguments, and what is found, by the place where the lot is found
-abbrev Place : Type 0
-Place = goal.In-At
-
-abbrev lot_of : Place → ℕ
-lot_of k = k.before.before.before.before.before.before.before.args.lot
-
-abbrev class_of : Place → ℕ
-class_of k = k.before.before.before.before.before.before.before.args.class
-
-abbrev words : Place → List ℕ
-words k = k.before.before.before.before.before.before.before.args.sheet.now
-
-abbrev found : Place → Found
-found k = k.before.f.given.0.0
-
--- and what is known there
-facts : (k : Place) → WithLot (lot_of k) (words k) (found k)
-facts k = with_lot (lot_of k) (words k) (found k) (sym k.before.before.before.locate-lot-and-count.ensures.0 ∙ k.before.f.given.1)
 
 pub returns-then-class-gt-HIGHEST_CLASS : goal.returns-then-class-gt-HIGHEST_CLASS
 returns-then-class-gt-HIGHEST_CLASS c =
-    rw (inspect_class (lot_of k) (class_of k) (words k) (found k) (facts k) c.if-class-gt-HIGHEST_CLASS.true) (refl, refl)
+    let lot_of : ℕ = c.args.lot in
+    let class_of : ℕ = c.args.class in
+    let words : List ℕ = c.args.sheet.now in
+    let found : Found = c.in-At.f in
+    let facts : WithLot (lot_of) (words) (found) = with_lot (lot_of) (words) (found) (sym c.locate_lot_and_count.ensures.value ∙ c.in-At.is) in
+    rw (inspect_class (lot_of) (class_of) (words) (found) (facts) c.if-class-gt-HIGHEST_CLASS.true) (record { value = refl; sheet_after = refl })
 
 pub answer_to-requires : goal.answer_to-requires
 answer_to-requires c =
-    answer-requires (lot_of k) (words k) (found k) (facts k)
+    let lot_of : ℕ = c.args.lot in
+    let words : List ℕ = c.args.sheet.now in
+    let found : Found = c.in-At.f in
+    let facts : WithLot (lot_of) (words) (found) = with_lot (lot_of) (words) (found) (sym c.locate_lot_and_count.ensures.value ∙ c.in-At.is) in
+    answer_requires (lot_of) (words) (found) (facts)
 
 pub returns-then-not-is_undecided : goal.returns-then-not-is_undecided
 returns-then-not-is_undecided c =
-    rw (inspect_decided (lot_of k) (class_of k) (words k) (found k) (facts k) c.if-class-gt-HIGHEST_CLASS.false
-    (sym (ap undecided c.answer_to.ensures) ∙ sym c.is_undecided.ensures ∙ c.if-not-is_undecided.true)) (refl, refl)
+    let lot_of : ℕ = c.args.lot in
+    let class_of : ℕ = c.args.class in
+    let words : List ℕ = c.args.sheet.now in
+    let found : Found = c.in-At.f in
+    let facts : WithLot (lot_of) (words) (found) = with_lot (lot_of) (words) (found) (sym c.locate_lot_and_count.ensures.value ∙ c.in-At.is) in
+    rw (inspect_decided (lot_of) (class_of) (words) (found) (facts) c.if-class-gt-HIGHEST_CLASS.false
+    (sym (ap undecided c.answer_to.ensures) ∙ sym c.is_undecided.ensures ∙ c.if-not-is_undecided.true)) (record { value = refl; sheet_after = refl })
 
 pub grant_record-requires : goal.grant_record-requires
 grant_record-requires c =
-    (lot_whole_sheet (lot_of k) (words k) (found k) (facts k), rw c.in-At.is at c.locate_lot_and_count.ensures.counted_on)
+    let lot_of : ℕ = c.args.lot in
+    let words : List ℕ = c.args.sheet.now in
+    let found : Found = c.in-At.f in
+    let facts : WithLot (lot_of) (words) (found) = with_lot (lot_of) (words) (found) (sym c.locate_lot_and_count.ensures.value ∙ c.in-At.is) in
+    (lot_whole_sheet (lot_of) (words) (found) (facts), rw c.in-At.is at c.locate_lot_and_count.ensures.counted_on)
 
 pub units-requires : goal.units-requires
 units-requires c =
-    few (lot_of k) (words k) (found k) (facts k)
+    let lot_of : ℕ = c.args.lot in
+    let words : List ℕ = c.args.sheet.now in
+    let found : Found = c.in-At.f in
+    let facts : WithLot (lot_of) (words) (found) = with_lot (lot_of) (words) (found) (sym c.locate_lot_and_count.ensures.value ∙ c.in-At.is) in
+    few (lot_of) (words) (found) (facts)
 
 pub add_inspection-requires : goal.add_inspection-requires
 add_inspection-requires c =
-    rw c.units.ensures (inspect-requires (lot_of k) (class_of k) (words k) (found k) (facts k) (sym c.grant_record.ensures ∙ c.in-Record.is))
+    let lot_of : ℕ = c.args.lot in
+    let class_of : ℕ = c.args.class in
+    let words : List ℕ = c.args.sheet.now in
+    let found : Found = c.in-At.f in
+    let facts : WithLot (lot_of) (words) (found) = with_lot (lot_of) (words) (found) (sym c.locate_lot_and_count.ensures.value ∙ c.in-At.is) in
+    rw c.units.ensures (inspect_requires (lot_of) (class_of) (words) (found) (facts) (sym c.grant_record.ensures ∙ c.in-Record.is))
 
 pub returns-in-Refused : goal.returns-in-Refused
 returns-in-Refused c =
-    let n = c.n-1.given in
-    rw (inspect_refused c.args.lot c.args.class c.args.sheet.now n.0.0 (sym c.locate_lot_and_count.ensures.value ∙ n.1)) (refl, refl)
+    rw (inspect_refused c.args.lot c.args.class c.args.sheet.now c.in-Refused.n (sym c.locate_lot_and_count.ensures.value ∙ c.in-Refused.is)) (record { value = refl; sheet_after = refl })
 
 pub returns-in-Refused-grant_record : goal.returns-in-Refused-grant_record
 returns-in-Refused-grant_record c =
-    let goes_on : undecided (earliest (stages (plan_words (words k))) (found k).counts) ≡ true = sym (ap undecided c.answer_to.ensures) ∙ sym c.is_undecided.ensures ∙ c.if-not-is_undecided.false in
-    let n = c.n-in-Refused-grant_record-1.given in
-    rw (inspect_denied (lot_of k) (class_of k) (words k) (found k) (facts k) c.if-class-gt-HIGHEST_CLASS.false (goes_on) n.0.0 (sym c.grant_record.ensures ∙ n.1))
-    (refl, refl)
+    let lot_of : ℕ = c.args.lot in
+    let class_of : ℕ = c.args.class in
+    let words : List ℕ = c.args.sheet.now in
+    let found : Found = c.in-At.f in
+    let facts : WithLot (lot_of) (words) (found) = with_lot (lot_of) (words) (found) (sym c.locate_lot_and_count.ensures.value ∙ c.in-At.is) in
+    let goes_on : undecided (earliest (stages (plan_words (words))) (found).counts) ≡ true = sym (ap undecided c.answer_to.ensures) ∙ sym c.is_undecided.ensures ∙ c.if-not-is_undecided.false in
+    rw (inspect_denied (lot_of) (class_of) (words) (found) (facts) c.if-class-gt-HIGHEST_CLASS.false (goes_on) c.in-Refused-grant_record.n (sym c.grant_record.ensures ∙ c.in-Refused-grant_record.is))
+    (record { value = refl; sheet_after = refl })
 
 pub returns-in-Record : goal.returns-in-Record
 returns-in-Record c =
-    let goes_on : undecided (earliest (stages (plan_words (words k))) (found k).counts) ≡ true = sym (ap undecided c.answer_to.ensures) ∙ sym c.is_undecided.ensures ∙ c.if-not-is_undecided.false in
-    rw (inspect_granted (lot_of k) (class_of k) (words k) (found k) (facts k) c.if-class-gt-HIGHEST_CLASS.false (goes_on) (sym c.grant_record.ensures ∙ c.in-Record.is))
-    (refl, rw c.units.ensures at c.add_inspection.ensures)
+    let lot_of : ℕ = c.args.lot in
+    let class_of : ℕ = c.args.class in
+    let words : List ℕ = c.args.sheet.now in
+    let found : Found = c.in-At.f in
+    let facts : WithLot (lot_of) (words) (found) = with_lot (lot_of) (words) (found) (sym c.locate_lot_and_count.ensures.value ∙ c.in-At.is) in
+    let goes_on : undecided (earliest (stages (plan_words (words))) (found).counts) ≡ true = sym (ap undecided c.answer_to.ensures) ∙ sym c.is_undecided.ensures ∙ c.if-not-is_undecided.false in
+    rw (inspect_granted (lot_of) (class_of) (words) (found) (facts) c.if-class-gt-HIGHEST_CLASS.false (goes_on) (sym c.grant_record.ensures ∙ c.in-Record.is))
+    (record { value = refl; sheet_after = rw c.units.ensures at c.add_inspection.ensures })

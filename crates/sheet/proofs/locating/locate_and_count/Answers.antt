@@ -52,8 +52,7 @@ pub returns-in-Intact : goal.returns-in-Intact
 returns-in-Intact c =
     let size_is : size_ok c.args.sheet.now ≡ true = sym c.size_ok.ensures ∙ c.if-not-size_ok.false in
     let shares_are : shares_fit (share c.args.sheet.now) c.args.sheet.now ≡ true = sym c.shares_fit.ensures ∙ c.if-not-shares_fit.false in
-    let f = c.f-1.given in
     let a = c.args in record {
-      value = sym (intact a.lot a.sheet.now f.0.0 (size_is) (shares_are) (sym c.survey.ensures.value ∙ f.1));
-      counted_on = counted_on a.lot a.sheet.now f.0.0 _ (shares_are) (rw f.1 at c.survey.ensures.counted);
+      value = sym (intact a.lot a.sheet.now c.in-Intact.f (size_is) (shares_are) (sym c.survey.ensures.value ∙ c.in-Intact.is));
+      counted_on = counted_on a.lot a.sheet.now c.in-Intact.f _ (shares_are) (rw c.in-Intact.is at c.survey.ensures.counted);
     }

@@ -7,7 +7,7 @@ use Rattle.sheetmodel.specs.Offices.{added_up, shares_fit}
 use Rattle.sheet.proofs.offices.given_shares_fit.Goals as goal
 
 pub sum_of-requires : goal.sum_of-requires
-sum_of-requires c = omega (arith, c.sum_of-arg-1.given.0)
+sum_of-requires c = omega (arith, c.sum_of-arg-1.given)
 
 pub has_records-requires : goal.has_records-requires
 has_records-requires c = c.requires
@@ -16,4 +16,4 @@ pub returns : goal.returns
 unfolding shares_fit
 returns c =
     let shares = c.args.shares.now in
-    c.has_records.ensures ∙ rw (c.sum_of.ensures ∙ ap (λ (n : ℕ). added_up n (word shares)) c.sum_of-arg-1.given.0)
+    c.has_records.ensures ∙ rw (c.sum_of.ensures ∙ ap (λ (n : ℕ). added_up n (word shares)) c.sum_of-arg-1.given)

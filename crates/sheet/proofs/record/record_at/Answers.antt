@@ -4,9 +4,3 @@ use Rattle.sheet.proofs.record.record_at.Goals as goal
 
 pub returns : goal.returns
 returns c = rw (c.field_of.ensures, c.field_of-2.ensures, c.field_of-3.ensures, c.field_of-4.ensures)
-
-record_at_spec = tie.close (tie.spec (λ c κs. search rules) (λ c κs. search rules) (λ c κs. search rules) (λ c κs. search rules) returns)
-
-{- MANUAL
-pub record_at_spec : {M : Type 1} → statement M
--}

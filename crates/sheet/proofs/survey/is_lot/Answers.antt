@@ -8,9 +8,9 @@ use Rattle.sheet.proofs.survey.is_lot.Goals as goal
 pub returns-then-not-is_used : goal.returns-then-not-is_used
 returns-then-not-is_used c = rw (sym c.is_used.ensures ∙ c.if-not-is_used.true)
 
-record-at-requires c κs =
-    let s = c.before.before.before in
-    (record_within s.args.first s.args.sheet.now s.args.at s.requires (sym c.before.is-used.ensures ∙ not-false _ c.if1.false), s.requires.short)
+pub record_at-r-requires : goal.record_at-r-requires
+record_at-r-requires c =
+    (record_within c.args.first c.args.sheet.now c.args.at c.requires (sym c.is_used.ensures ∙ c.if-not-is_used.false), c.requires.short)
 
 pub returns-then-r-above : goal.returns-then-r-above
 returns-then-r-above c =
@@ -26,7 +26,3 @@ returns c =
       lt-ltb _ _ (rw (ap value c.record_at-r.ensures) at c.if-r-above.false),
       ap tag c.record_at-r.ensures,
     )
-
-{- MANUAL
-record-at-requires : tie.Need-record-at-requires
--}

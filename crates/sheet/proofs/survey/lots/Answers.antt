@@ -39,10 +39,10 @@ returns-then-not-is_lot c =
       counted = tt;
     }
 
-record-at-requires c κs =
-    let l = c.before.before.before.before.loop in
-    let s = c.before.before.before.before.before.before.before.before.before.before in
-    (lot_within s.args.first s.args.sheet.now l.above l.at s.requires.0 (sym c.before.is_lot.ensures ∙ not-false _ c.if2.false), s.requires.0.short)
+pub record_at-r-requires : goal.record_at-r-requires
+record_at-r-requires c =
+    let l = c.loop-left in
+    (lot_within c.args.first c.args.sheet.now l.above l.at c.requires.0 (sym c.is_lot.ensures ∙ c.if-not-is_lot.false), c.requires.0.short)
 
 pub lot_inspections-requires : goal.lot_inspections-requires
 lot_inspections-requires c =
@@ -97,14 +97,13 @@ loop-left-preserved c =
     let l = c.loop-left in
     let a = c.args in
     let r = c.record_at-r in
-    let w = c.c-1.given in
     let v = c.with_lot_found-f in
     let u = ap (λ (f : Found). f.used) v.ensures in
     let is_lot = sym c.is_lot.ensures ∙ c.if-not-is_lot.false in
-    let chain = sym w.1 ∙ c.lot_inspections.ensures in
-    let next = next_lot a.first a.sheet.now (stages a.plan.now) a.sought l.f l.left l.above l.at c.loop-left-test.true c.if-at-eq0.false is_lot r.result r.ensures (Whole w.0.0 w.0.1.0) chain in
-    let more = count_one _ _ _ l.held l.f.used r.result.value (units w.0.0) l.invariant.3
-    (lot_read a.first a.sheet.now (stages a.plan.now) l.left l.above l.at c.loop-left-test.true c.if-at-eq0.false is_lot r.result r.ensures w.0.0 w.0.1.0 chain) in
+    let chain = sym c.in-Whole.is ∙ c.lot_inspections.ensures in
+    let next = next_lot a.first a.sheet.now (stages a.plan.now) a.sought l.f l.left l.above l.at c.loop-left-test.true c.if-at-eq0.false is_lot r.result r.ensures (Whole c.in-Whole.c c.in-Whole.blanks) chain in
+    let more = count_one _ _ _ l.held l.f.used r.result.value (units c.in-Whole.c) l.invariant.3
+    (lot_read a.first a.sheet.now (stages a.plan.now) l.left l.above l.at c.loop-left-test.true c.if-at-eq0.false is_lot r.result r.ensures c.in-Whole.c c.in-Whole.blanks chain) in
     (omega arith, omega (arith, lot_units), l.invariant.2 ∙ next ∙ rw v.ensures, rw (u, c.count_lot.ensures, c.units.ensures) more)
 
 pub returns-then-at-eq0-2 : goal.returns-then-at-eq0-2
@@ -134,7 +133,3 @@ units-requires c =
       chain_units c.args.first c.args.sheet.now l.at c.args.plan.now c.requires.1 (serial_at c.args.sheet.now r.link) r.link c.in-Whole.c c.in-Whole.blanks (sym c.lot_inspections.ensures ∙ c.in-Whole.is),
     ) in
     omega (arith, lot_units)
-
-{- MANUAL
-record-at-requires : tie.Need-record-at-requires invariant-loop decreases-loop
--}

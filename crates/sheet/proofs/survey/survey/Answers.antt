@@ -51,29 +51,25 @@ lots-requires c =
     let sized : Sized c.args.sheet.now = record { long = c.requires.0; short = c.requires.1; room = (header c.args.first c.args.sheet.now (header_is)).room } in
     (sized, rw c.plan_of-plan.ensures (header c.args.first c.args.sheet.now (header_is)).plan, c.sample_size-most.ensures, c.requires.2)
 
--- once the lots are walked: where they are, and what is found
-abbrev from_start : goal.After-lots → goal.Start
-from_start o = o.before.before.before.before.before.before.before
-
 pub returns-then-not-count_ok : goal.returns-then-not-count_ok
 returns-then-not-count_ok c =
     let header_is : let a = c.args in header_ok a.first a.sheet.now ≡ true = sym c.header_ok.ensures ∙ c.if-not-header_ok.false in
-    let lots_are : let a = (from_start o).args in c.lots.result ≡ lots_survey (stages (plan_words a.sheet.now)) a.sought nothing_found (read_lots a.first a.sheet.now (records a.sheet.now) 0 (word a.sheet.now first_lot)) = let a = (from_start o).args in
+    let lots_are : let a = c.args in c.lots.result ≡ lots_survey (stages (plan_words a.sheet.now)) a.sought nothing_found (read_lots a.first a.sheet.now (records a.sheet.now) 0 (word a.sheet.now first_lot)) = let a = c.args in
     c.lots.ensures.value ∙ ap (λ (v : List ℕ). lots_survey (stages v) a.sought nothing_found (read_lots a.first a.sheet.now (records a.sheet.now) 0 (word a.sheet.now first_lot))) c.plan_of-plan.ensures in
-    let by_both : (v : Surveyed) → c.lots.result ≡ v → (k : FreeChain) → let a = (from_start o).args in k ≡ free_of (read_free a.first a.sheet.now (depth a.sheet.now) (word a.sheet.now first_free)) → by_walks a.first a.sheet.now v k ≡ survey_of a.sought (read_from a.first a.sheet.now) = λ v e k f. let a = (from_start o).args in
+    let by_both : (v : Surveyed) → c.lots.result ≡ v → (k : FreeChain) → let a = c.args in k ≡ free_of (read_free a.first a.sheet.now (depth a.sheet.now) (word a.sheet.now first_free)) → by_walks a.first a.sheet.now v k ≡ survey_of a.sought (read_from a.first a.sheet.now) = λ v e k f. let a = c.args in
     by_code a.first a.sheet.now a.sought (header_is) v (sym e ∙ lots_are) k f in
-    let k = c.free-1.given in record {
+    record {
       value = rw (sym c.count_ok.ensures ∙ c.if-not-count_ok.true) at
-          (by_both (Intact c.in-Intact.f) c.in-Intact.is (free.Whole k.0.0) (sym k.1 ∙ c.free_chain.ensures));
+          (by_both (Intact c.in-Intact.f) c.in-Intact.is (free.Whole c.in-Whole.free) (sym c.in-Whole.is ∙ c.free_chain.ensures));
       counted = tt;
     }
 
 pub returns-in-Corrupt : goal.returns-in-Corrupt
 returns-in-Corrupt c =
     let header_is : let a = c.args in header_ok a.first a.sheet.now ≡ true = sym c.header_ok.ensures ∙ c.if-not-header_ok.false in
-    let lots_are : let a = (from_start o).args in c.lots.result ≡ lots_survey (stages (plan_words a.sheet.now)) a.sought nothing_found (read_lots a.first a.sheet.now (records a.sheet.now) 0 (word a.sheet.now first_lot)) = let a = (from_start o).args in
+    let lots_are : let a = c.args in c.lots.result ≡ lots_survey (stages (plan_words a.sheet.now)) a.sought nothing_found (read_lots a.first a.sheet.now (records a.sheet.now) 0 (word a.sheet.now first_lot)) = let a = c.args in
     c.lots.ensures.value ∙ ap (λ (v : List ℕ). lots_survey (stages v) a.sought nothing_found (read_lots a.first a.sheet.now (records a.sheet.now) 0 (word a.sheet.now first_lot))) c.plan_of-plan.ensures in
-    let by_both : (v : Surveyed) → c.lots.result ≡ v → (k : FreeChain) → let a = (from_start o).args in k ≡ free_of (read_free a.first a.sheet.now (depth a.sheet.now) (word a.sheet.now first_free)) → by_walks a.first a.sheet.now v k ≡ survey_of a.sought (read_from a.first a.sheet.now) = λ v e k f. let a = (from_start o).args in
+    let by_both : (v : Surveyed) → c.lots.result ≡ v → (k : FreeChain) → let a = c.args in k ≡ free_of (read_free a.first a.sheet.now (depth a.sheet.now) (word a.sheet.now first_free)) → by_walks a.first a.sheet.now v k ≡ survey_of a.sought (read_from a.first a.sheet.now) = λ v e k f. let a = c.args in
     by_code a.first a.sheet.now a.sought (header_is) v (sym e ∙ lots_are) k f in
     record {
       value = by_both Corrupt c.in-Corrupt.is _ refl;
@@ -83,9 +79,9 @@ returns-in-Corrupt c =
 pub returns-in-Corrupt-free_chain : goal.returns-in-Corrupt-free_chain
 returns-in-Corrupt-free_chain c =
     let header_is : let a = c.args in header_ok a.first a.sheet.now ≡ true = sym c.header_ok.ensures ∙ c.if-not-header_ok.false in
-    let lots_are : let a = (from_start o).args in c.lots.result ≡ lots_survey (stages (plan_words a.sheet.now)) a.sought nothing_found (read_lots a.first a.sheet.now (records a.sheet.now) 0 (word a.sheet.now first_lot)) = let a = (from_start o).args in
+    let lots_are : let a = c.args in c.lots.result ≡ lots_survey (stages (plan_words a.sheet.now)) a.sought nothing_found (read_lots a.first a.sheet.now (records a.sheet.now) 0 (word a.sheet.now first_lot)) = let a = c.args in
     c.lots.ensures.value ∙ ap (λ (v : List ℕ). lots_survey (stages v) a.sought nothing_found (read_lots a.first a.sheet.now (records a.sheet.now) 0 (word a.sheet.now first_lot))) c.plan_of-plan.ensures in
-    let by_both : (v : Surveyed) → c.lots.result ≡ v → (k : FreeChain) → let a = (from_start o).args in k ≡ free_of (read_free a.first a.sheet.now (depth a.sheet.now) (word a.sheet.now first_free)) → by_walks a.first a.sheet.now v k ≡ survey_of a.sought (read_from a.first a.sheet.now) = λ v e k f. let a = (from_start o).args in
+    let by_both : (v : Surveyed) → c.lots.result ≡ v → (k : FreeChain) → let a = c.args in k ≡ free_of (read_free a.first a.sheet.now (depth a.sheet.now) (word a.sheet.now first_free)) → by_walks a.first a.sheet.now v k ≡ survey_of a.sought (read_from a.first a.sheet.now) = λ v e k f. let a = c.args in
     by_code a.first a.sheet.now a.sought (header_is) v (sym e ∙ lots_are) k f in
     record {
       value = by_both (Intact c.in-Intact.f) c.in-Intact.is free.Corrupt (sym c.in-Corrupt-free_chain.is ∙ c.free_chain.ensures);
@@ -95,14 +91,13 @@ returns-in-Corrupt-free_chain c =
 pub returns-else-not-count_ok : goal.returns-else-not-count_ok
 returns-else-not-count_ok c =
     let header_is : let a = c.args in header_ok a.first a.sheet.now ≡ true = sym c.header_ok.ensures ∙ c.if-not-header_ok.false in
-    let lots_are : let a = (from_start o).args in c.lots.result ≡ lots_survey (stages (plan_words a.sheet.now)) a.sought nothing_found (read_lots a.first a.sheet.now (records a.sheet.now) 0 (word a.sheet.now first_lot)) = let a = (from_start o).args in
+    let lots_are : let a = c.args in c.lots.result ≡ lots_survey (stages (plan_words a.sheet.now)) a.sought nothing_found (read_lots a.first a.sheet.now (records a.sheet.now) 0 (word a.sheet.now first_lot)) = let a = c.args in
     c.lots.ensures.value ∙ ap (λ (v : List ℕ). lots_survey (stages v) a.sought nothing_found (read_lots a.first a.sheet.now (records a.sheet.now) 0 (word a.sheet.now first_lot))) c.plan_of-plan.ensures in
-    let by_both : (v : Surveyed) → c.lots.result ≡ v → (k : FreeChain) → let a = (from_start o).args in k ≡ free_of (read_free a.first a.sheet.now (depth a.sheet.now) (word a.sheet.now first_free)) → by_walks a.first a.sheet.now v k ≡ survey_of a.sought (read_from a.first a.sheet.now) = λ v e k f. let a = (from_start o).args in
+    let by_both : (v : Surveyed) → c.lots.result ≡ v → (k : FreeChain) → let a = c.args in k ≡ free_of (read_free a.first a.sheet.now (depth a.sheet.now) (word a.sheet.now first_free)) → by_walks a.first a.sheet.now v k ≡ survey_of a.sought (read_from a.first a.sheet.now) = λ v e k f. let a = c.args in
     by_code a.first a.sheet.now a.sought (header_is) v (sym e ∙ lots_are) k f in
-    let a = (from_start o).args in
-    let k = c.free-1.given in
+    let a = c.args in
     let is = rw (sym c.count_ok.ensures ∙ c.if-not-count_ok.false) at
-    (by_both (Intact c.in-Intact.f) c.in-Intact.is (free.Whole k.0.0) (sym k.1 ∙ c.free_chain.ensures)) in
+    (by_both (Intact c.in-Intact.f) c.in-Intact.is (free.Whole c.in-Whole.free) (sym c.in-Whole.is ∙ c.free_chain.ensures)) in
     record {
       value = is;
       counted = counted_whole a.first a.sheet.now a.sought c.in-Intact.f _ (sym is) (rw c.in-Intact.is at c.lots.ensures.counted);

@@ -9,10 +9,10 @@ use Rattle.sheet.proofs.writing.remove_lot.Goals as goal
 pub free_inspections-requires : goal.free_inspections-requires
 free_inspections-requires c =
     let unlinked : c.put_field.new.sheet ≡ unlinked_lot c.args.sheet.now c.args.at c.args.before c.args.answer c.args.c = cc in
-    rw (c.units.ensures, unlinked, c.field_of-newest.ensures) (
-      still_closing c.args.sheet.now c.args.at c.args.before c.args.answer c.args.c c.requires,
-      ap is_some (chain_kept c.args.sheet.now c.args.at c.args.before c.args.answer c.args.c c.requires),
-    )
+    rw (c.units.ensures, unlinked, c.field_of-newest.ensures) (record {
+      freeing = still_closing c.args.sheet.now c.args.at c.args.before c.args.answer c.args.c c.requires;
+      newest_value = ap is_some (chain_kept c.args.sheet.now c.args.at c.args.before c.args.answer c.args.c c.requires);
+    })
 
 pub returns : goal.returns
 returns c =
