@@ -9,7 +9,7 @@ use native.Mathlib.Omega.{arith}
 use lib.IntN.{pos}
 use lib.Dec.{T, le→leb}
 use lib.Pow.{pow-add, pow_pos, pow_mono, shl_lt}
-use lib.Ieee.{Float, fin, Format, binary64, prec, emax, low, up, down, round, div, of_int, in_float}
+use lib.Ieee.{Float, nan, inf, fin, Format, binary64, prec, emax, low, up, down, round, div, of_int, in_float}
 use lib.Ieee.Fits.{down_pos, reach}
 use lib.Ieee.Exact.{HasValue, round_exact}
 use lib.Ieee.Back.{round_whole}
@@ -33,22 +33,26 @@ round_scaled f x k K X =
 -- a float that is the whole number x, over the float 1 * 2 ^ k: what is rounded is x / 2 ^ k
 div_at : (f : Format) (y : Float) (x k : ℕ) → HasValue y false x 1 → div f y (fin false 1 (pos k)) ≡ round f false x (2 ^ k)
 unfolding div
+div_at f nan x k v = elim v [ ]
+div_at f (inf _) x k v = elim v [ ]
 div_at f (fin true m e) x k v = absurd (true≢false v.0)
 div_at f (fin false m e) x k v =
     round_same f false (m * up e * 1) (1 * 2 ^ k * down e) x (2 ^ k) (mul-pos (mul-pos (pow_pos 0) (pow_pos k)) (down_pos e)) (pow_pos k)
     (ap (λ (n : ℕ). n * 2 ^ k) v.1 ∙ simp (mul_assoc, mul_comm, one-mul))
 
 -- a whole number as a float is that number
-of_int : (f : Format) (x : ℕ) → x ≤ 2 ^ prec f → HasValue (of_int f (pos x)) false x 1
+of_whole : (f : Format) (x : ℕ) → x ≤ 2 ^ prec f → HasValue (of_int f (pos x)) false x 1
 unfolding of_int
-of_int f x h = round_whole f false x h
+of_whole f x h = round_whole f false x h
 
 divided : (f : Format) (x k : ℕ) → k ≤ low f → x < 2 ^ prec f → HasValue (div f (of_int f (pos x)) (fin false 1 (pos k))) false x (2 ^ k)
-divided f x k K X = rw (div_at f (of_int f (pos x)) x k (of_int f x (le_of_lt X))) (round_scaled f x k K X)
+divided f x k K X = rw (div_at f (of_int f (pos x)) x k (of_whole f x (le_of_lt X))) (round_scaled f x k K X)
 
 -- the library's account of a float's value, and ours
 exactly : (r : Float) (x k : ℕ) → HasValue r false x (2 ^ k) → Exactly r x k
 unfolding Exactly
+exactly nan x k h = elim h [ ]
+exactly (inf _) x k h = elim h [ ]
 exactly (fin s m e) x k h = h
 
 -- what `x as f64` asks

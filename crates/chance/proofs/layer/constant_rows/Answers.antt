@@ -40,29 +40,25 @@ next_limit-limit-requires c =
 
 pub open_rows-g-requires : goal.open_rows-g-requires
 open_rows-g-requires c =
-    let start : lts.Start calls reads.Pre reads.Post invariant-loop decreases-loop = c.before.before.before.before.before.before.before.before.before.before.before.before in
-    let loop : lts.At-loop calls reads.Pre reads.Post invariant-loop decreases-loop = c.before.before.before.before.before.before in
-    let stepped : let a = start.args in RowsTo a.plan.now a.s a.y a.rows a.layer.now c.constant_row.last.layer c.next_limit-limit.result (loop.loop.g + 1) = let row = c.constant_row in
-    plan_row start.pre.0 start.pre.1.0 loop.loop.inv c.loop-g-test.taken row.ensures row.kept.0 c.next_limit-limit.ensures in
-    let pre = (start).requires in
-    let limited = pre.1.0 in
-    let suits = pre.0.suits in
+    let stepped : let a = c.args in RowsTo a.plan.now a.s a.y a.rows a.layer.now c.constant_row.new.layer c.next_limit-limit.result (c.loop-g.g + 1) = let row = c.constant_row in
+    plan_row c.requires.ready c.requires.limited c.loop-g.invariant c.loop-g-test.true row.ensures row.auto.layer c.next_limit-limit.ensures in
+    let pre = c.requires in
+    let limited = pre.limited in
+    let suits = pre.ready.suits in
     let p = stepped in record {
-      partly = rows_partly (ready_partly pre.0) p.stepped p.same (omega arith);
+      partly = rows_partly (ready_partly pre.ready) p.stepped p.same (omega arith);
       constant_for = c.constant_of-t.ensures;
-      rows_bound = (limited.reached, limited.inside, omega (arith, suits.reject1, (shape (start).args.plan.now suits.admitted).reject1_from));
+      rows_bound = (limited.reached, limited.inside, omega (arith, suits.reject1, (shape c.args.plan.now suits.admitted).reject1_from));
     }
 
 pub loop-g-preserved-then-limit-eq0 : goal.loop-g-preserved-then-limit-eq0
 loop-g-preserved-then-limit-eq0 c =
-    let start : lts.Start calls reads.Pre reads.Post invariant-loop decreases-loop = c.before.before.before.before.before.before.before.before.before.before.before.before in
-    let loop : lts.At-loop calls reads.Pre reads.Post invariant-loop decreases-loop = c.before.before.before.before.before.before in
-    let stepped : let a = start.args in RowsTo a.plan.now a.s a.y a.rows a.layer.now c.constant_row.last.layer c.next_limit-limit.result (loop.loop.g + 1) = let row = c.constant_row in
-    plan_row start.pre.0 start.pre.1.0 loop.loop.inv c.loop-g-test.taken row.ensures row.kept.0 c.next_limit-limit.ensures in
+    let stepped : let a = c.args in RowsTo a.plan.now a.s a.y a.rows a.layer.now c.constant_row.new.layer c.next_limit-limit.result (c.loop-g.g + 1) = let row = c.constant_row in
+    plan_row c.requires.ready c.requires.limited c.loop-g.invariant c.loop-g-test.true row.ensures row.auto.layer c.next_limit-limit.ensures in
     let rows = c.open_rows-g in
-    let pre = (start).requires in
+    let pre = c.requires in
     let p = stepped in
-    plan_open pre.0 pre.1.0 p c.if-limit-eq0.true (omega (arith, rows.ensures.value)) (omega (arith, rows.ensures.value, p.upto)) rows.ensures.stepped_rows rows.auto.layer
+    plan_open pre.ready pre.limited p c.if-limit-eq0.true (omega (arith, rows.ensures.value)) (omega (arith, rows.ensures.value, p.upto)) rows.ensures.stepped_rows rows.auto.layer
 
 pub returns : goal.returns
 returns c =
@@ -91,10 +87,8 @@ loop-g-smaller c = omega (arith, c.loop-g-test.true)
 
 pub loop-g-preserved : goal.loop-g-preserved
 loop-g-preserved c =
-    let start : lts.Start calls reads.Pre reads.Post invariant-loop decreases-loop = c.before.before.before.before.before.before.before.before.before.before.before.before in
-    let loop : lts.At-loop calls reads.Pre reads.Post invariant-loop decreases-loop = c.before.before.before.before.before.before in
-    let stepped : let a = start.args in RowsTo a.plan.now a.s a.y a.rows a.layer.now c.constant_row.last.layer c.next_limit-limit.result (loop.loop.g + 1) = let row = c.constant_row in
-    plan_row start.pre.0 start.pre.1.0 loop.loop.inv c.loop-g-test.taken row.ensures row.kept.0 c.next_limit-limit.ensures in
+    let stepped : let a = c.args in RowsTo a.plan.now a.s a.y a.rows a.layer.now c.constant_row.new.layer c.next_limit-limit.result (c.loop-g.g + 1) = let row = c.constant_row in
+    plan_row c.requires.ready c.requires.limited c.loop-g.invariant c.loop-g-test.true row.ensures row.auto.layer c.next_limit-limit.ensures in
     stepped
 
 pub shape_of-layer : goal.shape_of-layer

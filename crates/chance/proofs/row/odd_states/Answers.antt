@@ -28,7 +28,7 @@ loop-b-preserved c =
     let some = odd_some a.from l.b l.invariant.1 more in
     let one : l.b ≡ l.b - 1 + 1 = omega (arith, some) in
     let below : a.from ≤ l.b - 1 = omega (arith, some) in
-    (state_more f l.invariant.0 (l.b - 1) one below done.0 done.1, below, odd_less a.from a.to l.b l.invariant.1 l.invariant.0.at_most l.invariant.2 more)
+    (state_more f l.invariant.0 (l.b - 1) one below done.value done.layer_after, below, odd_less a.from a.to l.b l.invariant.1 l.invariant.0.at_most l.invariant.2 more)
 
 pub returns : goal.returns
 returns c =

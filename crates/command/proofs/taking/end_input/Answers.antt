@@ -12,8 +12,7 @@ use Rattle.commandmodel.specs.Blocks.{input_ended}
 use Rattle.command.specs.Written.{Gives}
 use Rattle.command.proofs.Answers.{gives_as}
 use Rattle.command.proofs.Writing.{written_nothing}
-use Rattle.command.proofs.taking.end_input.Statement.{statement}
-use Rattle.command.proofs.taking.end_input.Tie as tie
+use Rattle.command.proofs.taking.end_input.Goals as goal
 
 -- without a byte there is no line
 no_line : (line w out : List ℕ) (n : ℕ) → n ≡ 0 → Gives (input_ended (take n line) w) out 0 out w
@@ -24,21 +23,16 @@ a_line : (line w : List ℕ) → (length line ≡ 0 → ⊥) → answer line w �
 unfolding input_ended
 a_line line w h = rw (ne_eqb (length line) 0 h)
 
-returns : tie.Need-returns
+pub returns-then-held-eq0 : goal.returns-then-held-eq0
+returns-then-held-eq0 c =
+    let a = c.args in
+    no_line a.line.now a.sheet.now a.replies.now a.held c.if-held-eq0.true
+
+pub slice_bounds-answer-end : goal.slice_bounds-answer-end
+slice_bounds-answer-end c = sym (length-take-le _ _ (omega arith))
+
+pub returns : goal.returns
 returns c =
-    let a = c.before.before.before.before.args in
-    no_line a.line.now a.sheet.now a.replies.now a.held c.if1.true
-
-slice-aggregate-answer : tie.Need-slice-aggregate-answer
-slice-aggregate-answer c = sym (length-take-le _ _ (omega arith))
-
-returns-2 : tie.Need-returns-2
-returns-2 c =
-    let a = c.before.before.before.before.before.before.before.before.before.before.before.before.args in
+    let a = c.args in
     let l = slice-aggregate-answer c.before.before.before.before.before.before.before in
-    gives_as (a_line (take a.held a.line.now) a.sheet.now (λ e. omega (arith, l, c.before.before.before.before.before.before.before.before.if1.false))) c.before.before.before.before.answer.ensures
-
-pub end_input_spec : {M : Type 1} → statement M
-end_input_spec =
-    tie.close
-    (tie.spec returns slice-aggregate-answer (λ c κs. search rules) (λ c. search rules) (λ c. search rules) returns-2)
+    gives_as (a_line (take a.held a.line.now) a.sheet.now (λ e. omega (arith, l, c.if-held-eq0.false))) c.answer.ensures
