@@ -20,7 +20,8 @@ pub returns-then-list-n : goal.returns-then-list-n
 returns-then-list-n c =
     let l = c.loop-at in
     let a = c.args in
-    no_room a.line.now a.start l.list l.n l.at l.invariant c.loop-at-test.true (omega (arith, l.invariant.long, c.if-list-n.true))
+    let told = no_room a.line.now a.start l.list l.n l.at l.invariant c.loop-at-test.true (omega (arith, l.invariant.long, c.if-list-n.true)) in
+    record { value = told.0; by_index = told.1 }
 
 pub shape_of-list-in-Bad : goal.shape_of-list-in-Bad
 shape_of-list-in-Bad c = c.loop-at.invariant.long ∙ sym c.requires.1
@@ -29,8 +30,8 @@ pub returns-in-Bad : goal.returns-in-Bad
 returns-in-Bad c =
     let l = c.loop-at in
     let a = c.args in
-    bad_number a.line.now a.start l.list l.n l.at l.invariant c.loop-at-test.true c.find-end.result c.find-end.ensures
-    (sym c.in-Bad.is ∙ c.read_number.ensures)
+    let told = bad_number a.line.now a.start l.list l.n l.at l.invariant c.loop-at-test.true c.find-end.result c.find-end.ensures (sym c.in-Bad.is ∙ c.read_number.ensures) in
+    record { value = told.0; by_index = told.1 }
 
 pub bounds-list-n : goal.bounds-list-n
 bounds-list-n c = omega (arith, c.if-list-n.false)
@@ -58,7 +59,8 @@ pub returns : goal.returns
 returns c =
     let l = c.loop-at in
     let a = c.args in
-    all_numbers a.line.now a.start l.list l.n l.at l.invariant c.loop-at-test.false
+    let told = all_numbers a.line.now a.start l.list l.n l.at l.invariant c.loop-at-test.false in
+    record { value = told.0; by_index = told.1 }
 
 pub slice_bounds-read_number-count : goal.slice_bounds-read_number-count
 slice_bounds-read_number-count c =

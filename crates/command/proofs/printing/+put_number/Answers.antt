@@ -27,21 +27,19 @@ returns-then-n-lt10 t c =
 
 pub put_number-end-requires : goal.put_number-end-requires
 put_number-end-requires t c =
-    let more : (given t) put-number.Post) → length (printed c.args.n) ≡ length (printed (c.args.n / 10)) + 1 = let a = c.args in
-    one_more_digit a.out.now a.at a.n c.if-n-lt10.false (omega arith) in
     let a = c.args in
     let more : length (printed a.n) ≡ length (printed (a.n / 10)) + 1 = one_more_digit a.out.now a.at a.n c.if-n-lt10.false (omega arith) in
     (omega arith, omega arith)
 
 pub bounds-out-end : goal.bounds-out-end
 bounds-out-end t c =
-    let more : (given t) put-number.Post) → length (printed c.args.n) ≡ length (printed (c.args.n / 10)) + 1 = let a = c.args in
+    let more : length (printed c.args.n) ≡ length (printed (c.args.n / 10)) + 1 = let a = c.args in
     one_more_digit a.out.now a.at a.n c.if-n-lt10.false (omega arith) in
     omega (arith, more, c.put_number-end.ensures.value, c.put_number-end.auto.out)
 
 pub overflow_add-result-2 : goal.overflow_add-result-2
 overflow_add-result-2 t c =
-    let more : (given t) put-number.Post) → length (printed c.args.n) ≡ length (printed (c.args.n / 10)) + 1 = let a = c.args in
+    let more : length (printed c.args.n) ≡ length (printed (c.args.n / 10)) + 1 = let a = c.args in
     one_more_digit a.out.now a.at a.n c.if-n-lt10.false (omega arith) in
     omega (arith, more, c.put_number-end.ensures.value)
 
@@ -50,7 +48,7 @@ shape_of-out t c = search rules
 
 pub returns : goal.returns
 returns t c =
-    let more : (given t) put-number.Post) → length (printed c.args.n) ≡ length (printed (c.args.n / 10)) + 1 = let a = c.args in
+    let more : length (printed c.args.n) ≡ length (printed (c.args.n / 10)) + 1 = let a = c.args in
     one_more_digit a.out.now a.at a.n c.if-n-lt10.false (omega arith) in
     let a = c.args in
     let told = c.put_number-end in record {

@@ -9,4 +9,4 @@ use Rattle.command.proofs.Writing.{one_digit_fits, one_digit_written, one_more_d
 use Rattle.command.proofs.printing.+put_number.Given as goal
 
 abbrev pub decreases-put_number : goal.decreases-put_number
-decreases-put_number l = l.at.1.0
+decreases-put_number l = l.n

@@ -36,9 +36,9 @@ command_of-requires c =
     let line : List ℕ = c.args.line.now in
     let short : length line ≤ 255 = c.if-line-gt255.false in
     let one_letter : 0 + until space line ≡ 1 = sym c.find.ensures ∙ c.if-find-ne1.false in
-    let read : let r = c.read_numbers in (c.in-Numbers.n ≤ most_numbers) × (command (line) ≡ by_letter forms (get_or (line) 0 0) (take c.in-Numbers.n r.new.list.0)) = let r = c.read_numbers in
-    good_numbers (line) (short) (one_letter) c.in-Numbers.n r.new.list.0 (sym c.in-Numbers.is ∙ r.ensures.value) r.ensures.by_index in
-    ((read).0, c.read_numbers.auto.list.0 ∙ c.requires)
+    let read : let r = c.read_numbers in (c.in-Numbers.n ≤ most_numbers) × (command (line) ≡ by_letter forms (get_or (line) 0 0) (take c.in-Numbers.n r.new.list)) = let r = c.read_numbers in
+    good_numbers (line) (short) (one_letter) c.in-Numbers.n r.new.list (sym c.in-Numbers.is ∙ r.ensures.value) r.ensures.by_index in
+    ((read).0, c.read_numbers.auto.list ∙ c.requires)
 
 pub returns-in-Bad : goal.returns-in-Bad
 returns-in-Bad c =
@@ -52,6 +52,6 @@ returns-in-Numbers c =
     let line : List ℕ = c.args.line.now in
     let short : length line ≤ 255 = c.if-line-gt255.false in
     let one_letter : 0 + until space line ≡ 1 = sym c.find.ensures ∙ c.if-find-ne1.false in
-    let read : let r = c.read_numbers in (c.in-Numbers.n ≤ most_numbers) × (command (line) ≡ by_letter forms (get_or (line) 0 0) (take c.in-Numbers.n r.new.list.0)) = let r = c.read_numbers in
-    good_numbers (line) (short) (one_letter) c.in-Numbers.n r.new.list.0 (sym c.in-Numbers.is ∙ r.ensures.value) r.ensures.by_index in
+    let read : let r = c.read_numbers in (c.in-Numbers.n ≤ most_numbers) × (command (line) ≡ by_letter forms (get_or (line) 0 0) (take c.in-Numbers.n r.new.list)) = let r = c.read_numbers in
+    good_numbers (line) (short) (one_letter) c.in-Numbers.n r.new.list (sym c.in-Numbers.is ∙ r.ensures.value) r.ensures.by_index in
     ((read).1 ∙ c.command_of.ensures.0, c.command_of.ensures.1)

@@ -1,0 +1,25 @@
+-- `export::haq_chart` meets its contract, case by case. Assumes nothing.
+use borrow.Author.Rules.{rules}
+use Rattle.export.proofs.chances.haq_chart.Goals as goal
+
+pub returns-in-Refused : goal.returns-in-Refused
+returns-in-Refused c =
+    let call = c.chart in
+    let told = c.in-Refused.is in
+    record {
+      value = rw (← call.ensures.value, told);
+      out_after = rw (← call.ensures.value, told);
+      exact_chart = rw call.ensures.value at call.ensures.exact_chart;
+      keeps = call.ensures.keeps;
+    }
+
+pub returns-in-Pair : goal.returns-in-Pair
+returns-in-Pair c =
+    let call = c.chart in
+    let told = c.in-Pair.is in
+    record {
+      value = rw (← call.ensures.value, told);
+      out_after = rw (← call.ensures.value, told);
+      exact_chart = rw call.ensures.value at call.ensures.exact_chart;
+      keeps = call.ensures.keeps;
+    }

@@ -1,0 +1,23 @@
+-- `export::haq_lot_chance` meets its contract, case by case. Assumes nothing.
+use borrow.Author.Rules.{rules}
+use Rattle.export.proofs.chances.haq_lot_chance.Goals as goal
+
+pub returns-in-Refused : goal.returns-in-Refused
+returns-in-Refused c =
+    let call = c.lot_chance in
+    let told = c.in-Refused.is in
+    record {
+      value = rw (← call.ensures.value, told);
+      out_after = rw (← call.ensures.value, told);
+      lot_keeps = call.ensures.lot_keeps;
+    }
+
+pub returns-in-Pair : goal.returns-in-Pair
+returns-in-Pair c =
+    let call = c.lot_chance in
+    let told = c.in-Pair.is in
+    record {
+      value = rw (← call.ensures.value, told);
+      out_after = rw (← call.ensures.value, told);
+      lot_keeps = call.ensures.lot_keeps;
+    }

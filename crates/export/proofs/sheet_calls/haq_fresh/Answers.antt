@@ -1,0 +1,11 @@
+-- `export::haq_fresh` meets its contract. Assumes nothing.
+use borrow.Author.Rules.{rules}
+use Rattle.export.proofs.sheet_calls.haq_fresh.Goals as goal
+
+pub returns : goal.returns
+returns c =
+    let call = c.fresh in
+    record {
+      value = rw call.ensures.value at c.number_of.ensures;
+      sheet_after = call.ensures.sheet_after;
+    }
