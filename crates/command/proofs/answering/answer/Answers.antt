@@ -25,10 +25,7 @@ pub slice_bounds-list-end : goal.slice_bounds-list-end
 slice_bounds-list-end c =
     let r = c.read_command in
     let few : c.in-Fresh.n ≤ most_numbers = rw (ap plan_numbers c.in-Fresh.is) at r.ensures.1 in
-    omega (arith, r.auto.list.0)
-
-pub slice_bounds-fresh_without_shares-end : goal.slice_bounds-fresh_without_shares-end
-slice_bounds-fresh_without_shares-end c = sym (length-take-le _ _ (array-share-prefix-list c.before))
+    omega (arith, r.auto.list)
 
 pub returns-in-Fresh : goal.returns-in-Fresh
 unfolding performed answer
@@ -36,7 +33,7 @@ returns-in-Fresh c =
     let line : List ℕ = c.args.line.now in
     let words : List ℕ = c.args.sheet.now in
     let out : List ℕ = c.args.out.now in
-    let list : List ℕ = c.read_command.new.list.0 in
+    let list : List ℕ = c.read_command.new.list in
     let call : (x : Command) → c.read_command.result ≡ x → (R : Type 0) (bytes : R → List ℕ) (o : calls.Outcome R) → answered (meaning x list) words ≡ in_bytes bytes o → (d : R) → d ≡ o.reply → (r : ℕ) → r ≡ length (bytes d) → (last : List ℕ) → last ≡ written out 0 (bytes d) → length last ≡ length out → (after : List ℕ) → after ≡ o.words → Gives (answer line words) out r last after = λ x e R bytes o made d told r count last printed same after left. by_call line words R bytes o (ap (λ (m : Option command.Command). answered m words) (c.read_command.ensures.0 ∙ ap (λ (m : Command). meaning m list) e) ∙ made) d told out r count last printed same after left in
     let made = c.fresh_without_shares in
     let put = c.put_done in
@@ -48,11 +45,11 @@ returns-in-Open c =
     let line : List ℕ = c.args.line.now in
     let words : List ℕ = c.args.sheet.now in
     let out : List ℕ = c.args.out.now in
-    let list : List ℕ = c.read_command.new.list.0 in
+    let list : List ℕ = c.read_command.new.list in
     let call : (x : Command) → c.read_command.result ≡ x → (R : Type 0) (bytes : R → List ℕ) (o : calls.Outcome R) → answered (meaning x list) words ≡ in_bytes bytes o → (d : R) → d ≡ o.reply → (r : ℕ) → r ≡ length (bytes d) → (last : List ℕ) → last ≡ written out 0 (bytes d) → length last ≡ length out → (after : List ℕ) → after ≡ o.words → Gives (answer line words) out r last after = λ x e R bytes o made d told r count last printed same after left. by_call line words R bytes o (ap (λ (m : Option command.Command). answered m words) (c.read_command.ensures.0 ∙ ap (λ (m : Command). meaning m list) e) ∙ made) d told out r count last printed same after left in
-    let made = c.before.before.before.before.before.«open» in
+    let made = c.«open» in
     let put = c.put_done-in-Open in
-    call _ c.in-Open.is Done done_printed (calls.open_lot c.in-Open.lot (words)) refl made.result made.ensures.0 put.result put.ensures.value put.new.out put.ensures.out_after put.auto.out made.new.0 made.ensures.1
+    call _ c.in-Open.is Done done_printed (calls.open_lot c.in-Open.lot (words)) refl made.result made.ensures.value put.result put.ensures.value put.new.out put.ensures.out_after put.auto.out made.new.sheet made.ensures.sheet_after
 
 pub returns-in-Inspect : goal.returns-in-Inspect
 unfolding performed answer
@@ -60,7 +57,7 @@ returns-in-Inspect c =
     let line : List ℕ = c.args.line.now in
     let words : List ℕ = c.args.sheet.now in
     let out : List ℕ = c.args.out.now in
-    let list : List ℕ = c.read_command.new.list.0 in
+    let list : List ℕ = c.read_command.new.list in
     let call : (x : Command) → c.read_command.result ≡ x → (R : Type 0) (bytes : R → List ℕ) (o : calls.Outcome R) → answered (meaning x list) words ≡ in_bytes bytes o → (d : R) → d ≡ o.reply → (r : ℕ) → r ≡ length (bytes d) → (last : List ℕ) → last ≡ written out 0 (bytes d) → length last ≡ length out → (after : List ℕ) → after ≡ o.words → Gives (answer line words) out r last after = λ x e R bytes o made d told r count last printed same after left. by_call line words R bytes o (ap (λ (m : Option command.Command). answered m words) (c.read_command.ensures.0 ∙ ap (λ (m : Command). meaning m list) e) ∙ made) d told out r count last printed same after left in
     let made = c.inspect in
     let put = c.put_done-in-Inspect in
@@ -72,7 +69,7 @@ returns-in-Strike c =
     let line : List ℕ = c.args.line.now in
     let words : List ℕ = c.args.sheet.now in
     let out : List ℕ = c.args.out.now in
-    let list : List ℕ = c.read_command.new.list.0 in
+    let list : List ℕ = c.read_command.new.list in
     let call : (x : Command) → c.read_command.result ≡ x → (R : Type 0) (bytes : R → List ℕ) (o : calls.Outcome R) → answered (meaning x list) words ≡ in_bytes bytes o → (d : R) → d ≡ o.reply → (r : ℕ) → r ≡ length (bytes d) → (last : List ℕ) → last ≡ written out 0 (bytes d) → length last ≡ length out → (after : List ℕ) → after ≡ o.words → Gives (answer line words) out r last after = λ x e R bytes o made d told r count last printed same after left. by_call line words R bytes o (ap (λ (m : Option command.Command). answered m words) (c.read_command.ensures.0 ∙ ap (λ (m : Command). meaning m list) e) ∙ made) d told out r count last printed same after left in
     let made = c.strike in
     let put = c.put_done-in-Strike in
@@ -84,7 +81,7 @@ returns-in-Look c =
     let line : List ℕ = c.args.line.now in
     let words : List ℕ = c.args.sheet.now in
     let out : List ℕ = c.args.out.now in
-    let list : List ℕ = c.read_command.new.list.0 in
+    let list : List ℕ = c.read_command.new.list in
     let call : (x : Command) → c.read_command.result ≡ x → (R : Type 0) (bytes : R → List ℕ) (o : calls.Outcome R) → answered (meaning x list) words ≡ in_bytes bytes o → (d : R) → d ≡ o.reply → (r : ℕ) → r ≡ length (bytes d) → (last : List ℕ) → last ≡ written out 0 (bytes d) → length last ≡ length out → (after : List ℕ) → after ≡ o.words → Gives (answer line words) out r last after = λ x e R bytes o made d told r count last printed same after left. by_call line words R bytes o (ap (λ (m : Option command.Command). answered m words) (c.read_command.ensures.0 ∙ ap (λ (m : Command). meaning m list) e) ∙ made) d told out r count last printed same after left in
     let made = c.look in
     let put = c.put_look in
@@ -96,7 +93,7 @@ returns-in-Close c =
     let line : List ℕ = c.args.line.now in
     let words : List ℕ = c.args.sheet.now in
     let out : List ℕ = c.args.out.now in
-    let list : List ℕ = c.read_command.new.list.0 in
+    let list : List ℕ = c.read_command.new.list in
     let call : (x : Command) → c.read_command.result ≡ x → (R : Type 0) (bytes : R → List ℕ) (o : calls.Outcome R) → answered (meaning x list) words ≡ in_bytes bytes o → (d : R) → d ≡ o.reply → (r : ℕ) → r ≡ length (bytes d) → (last : List ℕ) → last ≡ written out 0 (bytes d) → length last ≡ length out → (after : List ℕ) → after ≡ o.words → Gives (answer line words) out r last after = λ x e R bytes o made d told r count last printed same after left. by_call line words R bytes o (ap (λ (m : Option command.Command). answered m words) (c.read_command.ensures.0 ∙ ap (λ (m : Command). meaning m list) e) ∙ made) d told out r count last printed same after left in
     let made = c.close in
     let put = c.put_done-in-Close in
@@ -108,7 +105,7 @@ returns-in-Tally c =
     let line : List ℕ = c.args.line.now in
     let words : List ℕ = c.args.sheet.now in
     let out : List ℕ = c.args.out.now in
-    let list : List ℕ = c.read_command.new.list.0 in
+    let list : List ℕ = c.read_command.new.list in
     let call : (x : Command) → c.read_command.result ≡ x → (R : Type 0) (bytes : R → List ℕ) (o : calls.Outcome R) → answered (meaning x list) words ≡ in_bytes bytes o → (d : R) → d ≡ o.reply → (r : ℕ) → r ≡ length (bytes d) → (last : List ℕ) → last ≡ written out 0 (bytes d) → length last ≡ length out → (after : List ℕ) → after ≡ o.words → Gives (answer line words) out r last after = λ x e R bytes o made d told r count last printed same after left. by_call line words R bytes o (ap (λ (m : Option command.Command). answered m words) (c.read_command.ensures.0 ∙ ap (λ (m : Command). meaning m list) e) ∙ made) d told out r count last printed same after left in
     let made = c.tally in
     let put = c.put_tally in
@@ -120,7 +117,7 @@ returns-in-Bad c =
     let line : List ℕ = c.args.line.now in
     let words : List ℕ = c.args.sheet.now in
     let out : List ℕ = c.args.out.now in
-    let list : List ℕ = c.read_command.new.list.0 in
+    let list : List ℕ = c.read_command.new.list in
     let call : (x : Command) → c.read_command.result ≡ x → (R : Type 0) (bytes : R → List ℕ) (o : calls.Outcome R) → answered (meaning x list) words ≡ in_bytes bytes o → (d : R) → d ≡ o.reply → (r : ℕ) → r ≡ length (bytes d) → (last : List ℕ) → last ≡ written out 0 (bytes d) → length last ≡ length out → (after : List ℕ) → after ≡ o.words → Gives (answer line words) out r last after = λ x e R bytes o made d told r count last printed same after left. by_call line words R bytes o (ap (λ (m : Option command.Command). answered m words) (c.read_command.ensures.0 ∙ ap (λ (m : Command). meaning m list) e) ∙ made) d told out r count last printed same after left in
     let put = c.put_refusal in
     call _ c.in-Bad.is ℕ refusal (record { reply = not_a_command; words = words }) refl not_a_command refl put.result put.ensures.value put.new.out put.ensures.out_after put.auto.out (words) refl

@@ -46,4 +46,5 @@ pub returns : goal.returns
 returns c =
     let l = c.loop-i in
     let a = c.args in
-    all_spaced a.out.now a.start a.numbers.now l.out l.at l.i c.requires l.invariant c.loop-i-test.false
+    let told = all_spaced a.out.now a.start a.numbers.now l.out l.at l.i c.requires l.invariant c.loop-i-test.false in
+    record { value = told.0; out_after = told.1 }

@@ -1,9 +1,9 @@
 -- `command::answer_line` meets its contract. Assumes nothing.
-use Prim.Native.Nat.{ℕ}
 use native.Mathlib.Omega.{arith}
 use mathlib.Core.Path.{◌≡◌, ap, sym, ◌∙◌}
 use mathlib.Core.List.{List}
-use lib.ListN.{take}
+use Prim.Native.Nat.{ℕ, ◌≤◌}
+use lib.ListN.{length, take}
 use lib.Seq.{length-take-le}
 use borrow.Author.Rules.{rules}
 use Rattle.commandmodel.specs.Printed.{answer}
@@ -20,20 +20,19 @@ returns-then-n-eq0 c =
     let told = c.answer in
     gives_as (sym (kept_law a.rest.now a.sheet.now) ∙ ap (λ (k : ℕ). answer (kept (take k a.line.now) a.rest.now) a.sheet.now) (sym none)) told.ensures
 
-pub slice_bounds-put_bytes-end-2 : goal.slice_bounds-put_bytes-end-2
-slice_bounds-put_bytes-end-2 c = sym (length-take-le _ _ (omega arith))
-
 pub put_bytes-requires : goal.put_bytes-requires
-put_bytes-requires c = omega (arith, slice-aggregate-put-bytes-2 c)
+put_bytes-requires c = omega (arith, length-take-le c.args.n c.args.line.now (omega arith))
 
 pub slice_bounds-whole-end : goal.slice_bounds-whole-end
 slice_bounds-whole-end c =
     let first = c.put_bytes.new.out in
-    let a = c.args in
-    omega (arith, c.keep-end.ensures.value, c.keep-end.auto.line, kept_within (take a.n first) a.rest.now)
+    omega (arith, c.keep-end.ensures.value, c.keep-end.auto.line, kept_within (take c.args.n first) c.args.rest.now)
 
 pub slice_bounds-answer-end : goal.slice_bounds-answer-end
-slice_bounds-answer-end c = sym (length-take-le _ _ (array-share-prefix-whole c.before))
+slice_bounds-answer-end c =
+    let first = c.put_bytes.new.out in
+    let inside : c.keep-end.result ≤ length c.keep-end.new.line = omega (arith, c.keep-end.ensures.value, c.keep-end.auto.line, kept_within (take c.args.n first) c.args.rest.now) in
+    sym (length-take-le _ _ inside)
 
 pub returns : goal.returns
 returns c =

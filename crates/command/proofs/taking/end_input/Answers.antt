@@ -28,11 +28,8 @@ returns-then-held-eq0 c =
     let a = c.args in
     no_line a.line.now a.sheet.now a.replies.now a.held c.if-held-eq0.true
 
-pub slice_bounds-answer-end : goal.slice_bounds-answer-end
-slice_bounds-answer-end c = sym (length-take-le _ _ (omega arith))
-
 pub returns : goal.returns
 returns c =
     let a = c.args in
-    let l = slice-aggregate-answer c.before.before.before.before.before.before.before in
+    let l = length-take-le a.held a.line.now (omega arith) in
     gives_as (a_line (take a.held a.line.now) a.sheet.now (λ e. omega (arith, l, c.if-held-eq0.false))) c.answer.ensures

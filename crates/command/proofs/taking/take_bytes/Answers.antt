@@ -12,14 +12,17 @@ pub loop-at-init : goal.loop-at-init
 loop-at-init c = begins c.requires.1 c.requires.0
 
 pub returns-then-replies-used-lt-LONGEST_REPLY : goal.returns-then-replies-used-lt-LONGEST_REPLY
-returns-then-replies-used-lt-LONGEST_REPLY c = short_of_room c.requires.1 c.requires.0 c.loop-at.invariant c.if-replies-used-lt-LONGEST_REPLY.true
+returns-then-replies-used-lt-LONGEST_REPLY c =
+    let told = short_of_room c.requires.1 c.requires.0 c.loop-at.invariant c.if-replies-used-lt-LONGEST_REPLY.true in
+    record { bytes_value = told.0; left = told.1.0; progress = told.1.1 }
 
 pub returns-then-end-block : goal.returns-then-end-block
 returns-then-end-block c =
     let roomy : longest_reply ≤ length c.loop-at.replies - c.loop-at.used = omega (arith, c.if-replies-used-lt-LONGEST_REPLY.false) in
     let told = c.keep-m in
-    last_bytes c.requires.1 c.requires.0 c.loop-at.invariant (roomy) c.find-end.result c.find-end.ensures c.if-end-block.true
-    told.result told.new.line told.ensures.value told.ensures.line_after
+    let last = last_bytes c.requires.1 c.requires.0 c.loop-at.invariant roomy c.find-end.result c.find-end.ensures c.if-end-block.true
+    told.result told.new.line told.ensures.value told.ensures.line_after in
+    record { bytes_value = last.0; left = last.1.0; progress = last.1.1 }
 
 pub answer_line-used-requires : goal.answer_line-used-requires
 answer_line-used-requires c =
@@ -33,10 +36,12 @@ loop-at-preserved c =
     let roomy : longest_reply ≤ length c.loop-at.replies - c.loop-at.used = omega (arith, c.if-replies-used-lt-LONGEST_REPLY.false) in
     let told = c.answer_line-used in
     next_line c.requires.1 c.requires.0 c.loop-at.invariant (roomy) c.find-end.result c.find-end.ensures c.if-end-block.false
-    told.result told.new.out.0 told.new.sheet told.auto.sheet told.ensures
+    told.result told.new.out told.new.sheet told.auto.sheet told.ensures
 
 pub returns : goal.returns
-returns c = all_taken c.requires.1 c.requires.0 c.loop-at.invariant c.loop-at-test.false
+returns c =
+    let told = all_taken c.requires.1 c.requires.0 c.loop-at.invariant c.loop-at-test.false in
+    record { bytes_value = told.0; left = told.1.0; progress = told.1.1 }
 
 pub overflow_sub-replies : goal.overflow_sub-replies
 overflow_sub-replies c =
@@ -115,7 +120,12 @@ slice_bounds-answer_line-end-in-loop-at c =
     omega (arith, used_in)
 
 pub overflow_add-used : goal.overflow_add-used
-overflow_add-used c = omega (arith, (loop-again c).room)
+overflow_add-used c =
+    let roomy : longest_reply ≤ length c.loop-at.replies - c.loop-at.used = omega (arith, c.if-replies-used-lt-LONGEST_REPLY.false) in
+    let told = c.answer_line-used in
+    let next = next_line c.requires.1 c.requires.0 c.loop-at.invariant (roomy) c.find-end.result c.find-end.ensures c.if-end-block.false
+    told.result told.new.out told.new.sheet told.auto.sheet told.ensures in
+    omega (arith, next.room)
 
 pub overflow_add-at : goal.overflow_add-at
 overflow_add-at c =
