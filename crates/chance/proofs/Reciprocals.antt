@@ -1,7 +1,7 @@
 -- Division by multiplication with a reciprocal that is rounded up. Assumes nothing.
 use Prim.Native.Nat.{ℕ, zero, suc, ◌+◌, ◌*◌, ◌/◌, ◌%◌, ◌≤◌, ◌<◌}
 use mathlib.Core.Path.{◌≡◌, sym, ap, ◌∙◌}
-use native.Mathlib.Nat.{add-mul, mul-add, mul_assoc, mul_left_comm, mul_right_comm, mul-le-mul_left, mul-le-mul_right, le_of_mul-le-mul_right, lt_of_mul-lt-mul_right, div-eq_of_lt-le, div-mul-le_self, lt-div-mul-add, div-add-mod', mul-add-div_right, div-div-eq-div-mul, mod-lt, mul-zero, mul-div-mul_right}
+use native.Mathlib.Nat.{add-mul, mul-add, mul_assoc, mul_right_comm, mul-le-mul_left, mul-le-mul_right, le_of_mul-le-mul_right, lt_of_mul-lt-mul_right, div-eq_of_lt-le, div-mul-le_self, lt-div-mul-add, div-add-mod', mul-add-div_right, div-div-eq-div-mul, mod-lt, mul-zero, mul-div-mul_right}
 use native.Mathlib.Omega.{arith}
 use Rattle.chance.specs.declared.division.Reciprocal.{Reciprocal}
 use Rattle.chance.specs.Division.{divisor, Exact}

@@ -1,8 +1,8 @@
 -- The mean with constant weights, by two products. Assumes nothing.
-use Prim.Native.Nat.{ℕ, ◌+◌, ◌-◌, ◌*◌, ◌/◌, ◌≤◌, ◌<◌}
+use Prim.Native.Nat.{ℕ, ◌+◌, ◌-◌, ◌*◌, ◌/◌, ◌≤◌}
 use mathlib.Core.Path.{◌≡◌, ap, ◌∙◌}
 use mathlib.Core.Bool.{Bool, true, false, cond}
-use native.Mathlib.Nat.{add-mul, mul-add, mul_right_comm, mul-le-mul_left, mul-le-mul_right, mul-add-div}
+use native.Mathlib.Nat.{add-mul, mul-add, mul_right_comm, mul-le-mul_left, mul-add-div}
 use native.Mathlib.Omega.{arith}
 use Rattle.chance.specs.declared.division.Reciprocal.{Reciprocal}
 use Rattle.chance.specs.declared.setting.Setting.{Setting}
@@ -10,7 +10,7 @@ use Rattle.chance.specs.declared.constant.Constant.{Constant}
 use Rattle.chance.specs.Bounds.{weight_sum, weighted, rounded}
 use Rattle.chance.specs.Chance.{scale}
 use Rattle.chance.specs.Division.{divisor, Exact}
-use Rattle.chance.specs.Layer.{rounding, Proportions}
+use Rattle.chance.specs.Layer.{rounding}
 use Rattle.chance.specs.Constant.{constant_sum, ConstantFor}
 use Rattle.chance.proofs.Rounding.{rounds}
 use Rattle.chance.proofs.Reciprocals.{scaled, scaled_fits}

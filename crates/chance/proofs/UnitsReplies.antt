@@ -3,7 +3,7 @@
 use Prim.Native.Nat.{ℕ, ◌≤◌}
 use mathlib.Core.List.{List}
 use native.Mathlib.Omega.{arith}
-use Rattle.plan.specs.Plan.{stages, total}
+use Rattle.plan.specs.Plan.{stages}
 use Rattle.plan.specs.Refusal.{NoneApplies}
 use Rattle.plan.proofs.Promise.{shape}
 use Rattle.chance.specs.declared.mean.Weights.{Weights}

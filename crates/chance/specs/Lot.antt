@@ -8,7 +8,6 @@ use Rattle.plan.specs.Sample.{verdict}
 use Rattle.chance.specs.declared.mean.Weights.{Weights}
 use Rattle.chance.specs.declared.answers.Bounds.{Bounds}
 use Rattle.chance.specs.declared.answers.BoundsAnswer.{BoundsAnswer}
-use Rattle.chance.specs.declared.answers.BoundsAnswer.TheVariants as BoundsAnswer
 use Rattle.chance.specs.Bounds.{weight_sum, Rounding, down, up, bound}
 use Rattle.chance.specs.Chance.{chance_value, left_of, indicator}
 use Rattle.chance.specs.Reply.{plan_row, scratch_row, Kept}

@@ -7,10 +7,8 @@ use Rattle.plan.specs.Reply.{Reply, granted, refused}
 use Rattle.chance.specs.declared.mean.Weights.{Weights}
 use Rattle.chance.specs.declared.answers.Bounds.{Bounds}
 use Rattle.chance.specs.declared.answers.BoundsAnswer.{BoundsAnswer}
-use Rattle.chance.specs.declared.answers.BoundsAnswer.TheVariants as BoundsAnswer
 use Rattle.chance.specs.declared.answers.Chart.{Chart}
 use Rattle.chance.specs.declared.answers.ChartAnswer.{ChartAnswer}
-use Rattle.chance.specs.declared.answers.ChartAnswer.TheVariants as ChartAnswer
 use Rattle.chance.specs.Bounds.{weight_sum, Valuation}
 use Rattle.chance.specs.Chance.{scale, low, high}
 use Rattle.chance.specs.Layer.{valuation, valued_bounds}

@@ -11,9 +11,7 @@ use Rattle.plan.specs.Refusal.{first_refusal}
 use Rattle.chance.specs.declared.mean.Weights.{Weights}
 use Rattle.chance.specs.declared.answers.Bounds.{Bounds}
 use Rattle.chance.specs.declared.answers.BoundsAnswer.{BoundsAnswer}
-use Rattle.chance.specs.declared.answers.BoundsAnswer.TheVariants as BoundsAnswer
 use Rattle.chance.specs.declared.answers.ChartAnswer.{ChartAnswer}
-use Rattle.chance.specs.declared.answers.ChartAnswer.TheVariants as ChartAnswer
 use Rattle.chance.specs.Bounds.{Rounding, down, up, Valuation, bound, sum_over, weight_product}
 use Rattle.chance.specs.Chance.{constant}
 use Rattle.chance.specs.Reply.{refusals, floats, ExactFloats}

@@ -7,7 +7,7 @@ use mathlib.Core.Bool.{Bool, true, false, cond}
 use mathlib.Core.List.{List, [], ◌∷◌}
 use native.Mathlib.Omega.{arith}
 use lib.ListN.{length, drop, length-take, length-drop}
-use lib.Dec.{ltb, eqb}
+use lib.Dec.{eqb}
 use borrow.Author.Tests.{lt-ltb, le-ltb, ne_eqb}
 use Rattle.plan.specs.declared.counts.Counts.{Counts}
 use Rattle.plan.specs.Plan.{stages}
@@ -18,7 +18,7 @@ use Rattle.sheetmodel.specs.declared.reply.Estimate.{Estimate}
 use Rattle.sheetmodel.specs.declared.reply.Estimated.TheVariants as estimated
 use Rattle.sheet.specs.declared.survey.Found.{Found}
 use Rattle.sheet.specs.declared.locating.Located.TheVariants.{Refused}
-use Rattle.sheetmodel.specs.Layout.{size_ok, word, field, newest, next_unused, stage_count, first_record, plan_start, plan_words}
+use Rattle.sheetmodel.specs.Layout.{word, field, newest, next_unused, stage_count, first_record, plan_start, plan_words}
 use Rattle.sheetmodel.specs.Contents.{Inspection, classes, history}
 use Rattle.sheetmodel.specs.Holds.{Inspections}
 use Rattle.sheetmodel.specs.Read.{undecided}

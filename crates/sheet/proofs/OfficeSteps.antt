@@ -9,7 +9,7 @@ use native.Mathlib.Omega.{arith}
 use lib.ListN.{length, set, replicate, length-set, get_or-replicate}
 use lib.Dec.{ltb, eqb}
 use borrow.Author.Tests.{lt-ltb, le-ltb, eqb-true, eqb-false}
-use Rattle.sheetmodel.specs.Layout.{word, records, next_unused, first_record, offices, share}
+use Rattle.sheetmodel.specs.Layout.{word, next_unused, first_record, offices, share}
 use Rattle.sheetmodel.specs.Contents.{Lot, Contents}
 use Rattle.sheetmodel.specs.Holds.{Holds}
 use Rattle.sheetmodel.specs.Offices.{office, added_up, held, lacking, all_lacking, others_lacking, spare, may_take}

@@ -11,7 +11,6 @@ use Rattle.plan.specs.declared.counts.Counts.{Counts}
 use Rattle.plan.specs.declared.stage.Answer.{Answer}
 use Rattle.plan.specs.Counts.{units}
 use Rattle.sheetmodel.specs.Layout.{word, field, next, newest, put, next_unused, first_free, first_record}
-use Rattle.sheetmodel.specs.Contents.{history}
 use Rattle.sheetmodel.specs.Holds.{Inspections}
 use Rattle.sheetmodel.specs.Read.{serial_at, depth}
 use Rattle.sheetmodel.specs.Calls.{lots_total, add_totals, free_record, free_inspections, free_lot, without_lot}

@@ -1,5 +1,4 @@
 -- `chance::chance` meets its contract: the bounds of its valuation. Assumes nothing.
-use borrow.Author.Rules.{rules}
 use Rattle.chance.specs.Chance.{low, high}
 use Rattle.chance.specs.Reply.{chance_answer}
 use Rattle.chance.proofs.acceptance.chance.Goals as goal

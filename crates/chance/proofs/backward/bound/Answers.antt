@@ -3,7 +3,6 @@ use mathlib.Core.Path.{◌≡◌, subst, ◌∙◌}
 use mathlib.Core.Logic.{inr}
 use native.Mathlib.Omega.{arith}
 use Rattle.plan.proofs.Promise.{shape}
-use Rattle.chance.specs.Layer.{Cleared}
 use Rattle.chance.proofs.States.{inside}
 use Rattle.chance.proofs.InPlace.{cleared_after}
 use Rattle.chance.proofs.Induction.{LayersTo, layers_none, layer_ready, layers_more, layers_all}

@@ -1,13 +1,6 @@
 -- `chance::bound` meets its contract: layer by layer, from S units down. Assumes nothing.
-use Prim.Native.Nat.{◌+◌, ◌-◌}
-use mathlib.Core.Path.{◌≡◌, subst, ◌∙◌}
-use mathlib.Core.Logic.{inr}
-use native.Mathlib.Omega.{arith}
-use Rattle.plan.proofs.Promise.{shape}
 use Rattle.chance.specs.Layer.{Cleared}
-use Rattle.chance.proofs.States.{inside}
-use Rattle.chance.proofs.InPlace.{cleared_after}
-use Rattle.chance.proofs.Induction.{LayersTo, layers_none, layer_ready, layers_more, layers_all}
+use Rattle.chance.proofs.Induction.{LayersTo}
 use Rattle.chance.proofs.backward.bound.Given as goal
 
 abbrev pub invariant-loop-y : goal.invariant-loop-y

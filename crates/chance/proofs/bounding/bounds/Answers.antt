@@ -1,7 +1,6 @@
 -- `chance::bounds` meets its contract: the two halves one after the other. Assumes nothing.
 use Prim.Native.Nat.{◌*◌}
 use mathlib.Core.Path.{◌∙◌}
-use borrow.Author.Rules.{rules}
 use native.Mathlib.Omega.{arith}
 use Rattle.chance.proofs.Parts.{from_middle}
 use Rattle.chance.proofs.bounding.bounds.Goals as goal

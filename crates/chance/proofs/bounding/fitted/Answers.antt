@@ -1,7 +1,6 @@
 -- `chance::fitted` meets its contract: by the room that the scratch has. Assumes nothing.
 use Prim.Native.Nat.{◌≤◌}
 use mathlib.Core.Path.{refl, ap, ◌∙◌}
-use borrow.Author.Rules.{rules}
 use native.Mathlib.Omega.{arith}
 use lib.ListN.{length}
 use Rattle.chance.specs.declared.answers.BoundsAnswer.TheVariants.{Pair}

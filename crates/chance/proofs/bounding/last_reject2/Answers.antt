@@ -1,7 +1,6 @@
 -- `chance::last_reject2` meets its contract: it stands where the plan's shape has it. Assumes nothing.
 use Prim.Native.Nat.{◌-◌}
 use mathlib.Core.Path.{sym}
-use borrow.Author.Rules.{rules}
 use native.Mathlib.Omega.{arith}
 use lib.ListN.{length}
 use Rattle.plan.proofs.Promise.{shape}

@@ -1,8 +1,6 @@
 -- `chance::weighted` meets its contract: row by row of the refusals, and then both bounds. Assumes nothing.
 use mathlib.Core.Path.{refl, sym, ◌∙◌}
 use mathlib.Core.Bool.{true≢false}
-use borrow.Author.Rules.{rules}
-use borrow.Author.Tests.{not-true, not-false}
 use native.Mathlib.Omega.{arith}
 use lib.ListN.{length}
 use Rattle.chance.specs.declared.answers.BoundsAnswer.TheVariants.{Refused}

@@ -1,7 +1,6 @@
 -- `chance::chart` meets its contract: the bounds of a granted chance, each divided by 2^40, or its refusal. The divisor's literal is
 -- the float 2^40, which `of_bits` computes. Assumes nothing.
 use mathlib.Core.Path.{sym, ap, subst, ◌∙◌}
-use borrow.Author.Rules.{rules}
 use lib.ListN.{length}
 use lib.Ieee.{of_bits}
 use native.Mathlib.Omega.{arith}

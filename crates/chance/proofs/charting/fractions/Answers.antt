@@ -1,6 +1,5 @@
 -- `chance::fractions` meets its contract: each bound of a pair is divided, and a refusal stays. Assumes nothing.
 use mathlib.Core.Path.{sym, ap, subst, ◌∙◌}
-use borrow.Author.Rules.{rules}
 use Rattle.chance.specs.declared.answers.ChartAnswer.TheVariants as ChartAnswer
 use Rattle.chance.specs.Reply.{divided_answer, Fits}
 use Rattle.chance.proofs.charting.fractions.Goals as goal

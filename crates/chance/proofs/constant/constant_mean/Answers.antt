@@ -1,6 +1,5 @@
 -- `chance::constant_mean` meets its contract. Assumes nothing.
 use mathlib.Core.Path.{◌∙◌}
-use borrow.Author.Rules.{rules}
 use native.Mathlib.Omega.{arith}
 use Rattle.chance.proofs.TwoProducts.{blended}
 use Rattle.chance.proofs.constant.constant_mean.Goals as goal
@@ -19,9 +18,9 @@ overflow_add-sum-4 c = omega (arith, (blended c.requires.constant_for c.requires
 
 pub quotient-requires : goal.quotient-requires
 quotient-requires c = record {
-      exact = c.requires.constant_for.exact;
-      n_bound = omega (arith, (blended c.requires.constant_for c.requires.good_le_scale).fits);
-    }
+  exact = c.requires.constant_for.exact;
+  n_bound = omega (arith, (blended c.requires.constant_for c.requires.good_le_scale).fits);
+}
 
 pub overflow_sub-result : goal.overflow_sub-result
 overflow_sub-result c = omega (arith, c.quotient.ensures ∙ (blended c.requires.constant_for c.requires.good_le_scale).value)

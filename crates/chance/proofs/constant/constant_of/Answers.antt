@@ -1,7 +1,6 @@
 -- `chance::constant_of` meets its contract. Assumes nothing.
 use Prim.Native.Nat.{ℕ, ◌+◌, ◌*◌}
 use mathlib.Core.Path.{◌≡◌, refl, ap}
-use borrow.Author.Rules.{rules}
 use native.Mathlib.Omega.{arith}
 use Rattle.chance.specs.Bounds.{weight_sum}
 use Rattle.chance.specs.Constant.{constant_sum}

@@ -1,7 +1,6 @@
 -- `chance::inverse_of` meets its contract. Assumes nothing.
 use Prim.Native.Nat.{ℕ, ◌+◌}
 use mathlib.Core.Path.{ap}
-use borrow.Author.Rules.{rules}
 use native.Mathlib.Omega.{arith}
 use Rattle.chance.proofs.Reciprocals.{steps}
 use Rattle.chance.proofs.division.inverse_of.Goals as goal

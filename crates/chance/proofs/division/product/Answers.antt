@@ -5,7 +5,6 @@ use native.Mathlib.Omega.{arith}
 use native.Mathlib.Nat.{mul-le-mul_left, mul-le-mul_right, le_trans}
 use Rattle.chance.proofs.division.product.Goals as goal
 
-
 square : (x y : ℕ) → x ≤ 4294967295 → y ≤ 4294967295 → x * y ≤ 18446744065119617025
 square x y h k = le_trans (mul-le-mul_right y h) (mul-le-mul_left 4294967295 k)
 

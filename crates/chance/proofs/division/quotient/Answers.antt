@@ -1,7 +1,6 @@
 -- `chance::quotient` meets its contract. Assumes nothing.
 use Prim.Native.Nat.{ℕ, ◌/◌}
 use mathlib.Core.Path.{ap, ◌∙◌}
-use borrow.Author.Rules.{rules}
 use Rattle.chance.proofs.Reciprocals.{exactly}
 use Rattle.chance.proofs.division.quotient.Goals as goal
 

@@ -1,6 +1,5 @@
 -- `chance::reciprocal_of` meets its contract. Assumes nothing.
 use mathlib.Core.Path.{refl}
-use borrow.Author.Rules.{rules}
 use native.Mathlib.Omega.{arith}
 use Rattle.chance.proofs.Reciprocals.{exact}
 use Rattle.chance.proofs.division.reciprocal_of.Goals as goal

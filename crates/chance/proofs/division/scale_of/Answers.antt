@@ -1,4 +1,3 @@
-use Prim.Native.Nat.{◌-◌, ◌*◌, ◌≤◌, ◌<◌}
 use native.Mathlib.Nat.{mul-one, mul_assoc, mul-le-mul_right}
 use native.Mathlib.Omega.{arith}
 use Rattle.chance.proofs.division.scale_of.Goals as goal

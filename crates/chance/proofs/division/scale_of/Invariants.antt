@@ -1,7 +1,5 @@
 -- `chance::scale_of` meets its contract. Assumes nothing.
 use Prim.Native.Nat.{◌-◌, ◌*◌, ◌≤◌, ◌<◌}
-use native.Mathlib.Nat.{mul-one, mul_assoc, mul-le-mul_right}
-use native.Mathlib.Omega.{arith}
 use Rattle.chance.proofs.division.scale_of.Given as goal
 
 abbrev pub invariant-loop-scale : goal.invariant-loop-scale

@@ -1,7 +1,6 @@
 -- `chance::upper_product` meets its contract. Assumes nothing.
 use Prim.Native.Nat.{◌+◌, ◌/◌, ◌%◌}
 use mathlib.Core.Path.{refl, ◌∙◌}
-use borrow.Author.Rules.{rules}
 use Rattle.chance.proofs.Reciprocals.{upper_half}
 use Rattle.chance.proofs.division.upper_product.Goals as goal
 

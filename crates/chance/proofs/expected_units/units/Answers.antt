@@ -1,5 +1,4 @@
 -- `chance::units` meets its contract: the bounds of its valuation. Assumes nothing.
-use borrow.Author.Rules.{rules}
 use Rattle.chance.specs.Units.{units_low, units_high, units_answer}
 use Rattle.chance.proofs.expected_units.units.Goals as goal
 

@@ -1,10 +1,6 @@
 -- `chance::constant_rows` meets its contract: the rows before g are done. Assumes nothing.
-use Prim.Native.Nat.{ℕ, ◌+◌, ◌-◌, ◌<◌}
-use mathlib.Core.Path.{◌≡◌, subst}
-use native.Mathlib.Omega.{arith}
-use Rattle.plan.proofs.Promise.{shape}
-use Rattle.chance.specs.Layer.{step_value, SteppedRows}
-use Rattle.chance.proofs.InPlace.{ready_partly, rows_valued, rows_partly, RowsTo, rows_begin, plan_row, plan_open}
+use Prim.Native.Nat.{◌-◌}
+use Rattle.chance.proofs.InPlace.{RowsTo}
 use Rattle.chance.proofs.layer.constant_rows.Given as goal
 
 abbrev pub invariant-loop-g : goal.invariant-loop-g

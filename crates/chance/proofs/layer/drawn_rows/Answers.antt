@@ -1,10 +1,10 @@
-use Prim.Native.Nat.{ℕ, ◌-◌, ◌≤◌, ◌<◌}
+use Prim.Native.Nat.{ℕ, ◌≤◌, ◌<◌}
 use mathlib.Core.Path.{◌≡◌, subst}
 use native.Mathlib.Omega.{arith}
 use Rattle.plan.proofs.Promise.{shape}
 use Rattle.chance.specs.Layer.{step_value, SteppedRows}
 use Rattle.chance.proofs.Decisions.{weighs}
-use Rattle.chance.proofs.InPlace.{ready_partly, rows_valued, RowsTo, rows_begin, plan_row}
+use Rattle.chance.proofs.InPlace.{ready_partly, rows_valued, rows_begin, plan_row}
 use Rattle.chance.proofs.layer.drawn_rows.Goals as goal
 
 pub drawn_row-requires : goal.drawn_row-requires

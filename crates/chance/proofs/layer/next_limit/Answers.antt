@@ -1,5 +1,4 @@
 -- `chance::next_limit` meets its contract: the limit does not rise. Assumes nothing.
-use borrow.Author.Rules.{rules}
 use native.Mathlib.Omega.{arith}
 use Rattle.plan.proofs.Promise.{shape, promise}
 use Rattle.chance.proofs.layer.next_limit.Goals as goal

@@ -1,8 +1,5 @@
-use Prim.Native.Nat.{◌-◌, ◌≤◌, max}
-use mathlib.Core.Path.{◌≡◌, refl, ◌∙◌}
-use lib.ListN.{length}
+use mathlib.Core.Path.{refl, ◌∙◌}
 use native.Mathlib.Omega.{arith}
-use Rattle.chance.specs.Layer.{open_value, SteppedRows}
 use Rattle.chance.proofs.InPlace.{rows_none, rows_valued, rows_more}
 use Rattle.chance.proofs.layer.open_rows.Goals as goal
 
@@ -45,6 +42,6 @@ shape_of-layer c = c.loop-g.invariant.0
 
 pub returns : goal.returns
 returns c = let l = c.loop-g in record {
-      value = omega (arith, l.invariant.1, l.invariant.2, c.loop-g-test.false, c.minimum-end.ensures);
-      stepped_rows = l.invariant.3;
-    }
+  value = omega (arith, l.invariant.1, l.invariant.2, c.loop-g-test.false, c.minimum-end.ensures);
+  stepped_rows = l.invariant.3;
+}

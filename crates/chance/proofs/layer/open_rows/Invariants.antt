@@ -1,10 +1,8 @@
 -- `chance::open_rows` meets its contract: the rows before g are done. Assumes nothing.
 use Prim.Native.Nat.{◌-◌, ◌≤◌, max}
-use mathlib.Core.Path.{◌≡◌, refl, ◌∙◌}
+use mathlib.Core.Path.{◌≡◌}
 use lib.ListN.{length}
-use native.Mathlib.Omega.{arith}
 use Rattle.chance.specs.Layer.{open_value, SteppedRows}
-use Rattle.chance.proofs.InPlace.{rows_none, rows_valued, rows_more}
 use Rattle.chance.proofs.layer.open_rows.Given as goal
 
 abbrev pub invariant-loop-g : goal.invariant-loop-g

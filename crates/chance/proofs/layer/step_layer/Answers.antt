@@ -1,7 +1,6 @@
 -- `chance::step_layer` meets its contract: the rows that are not rejected, and those that are. Assumes nothing.
 use Prim.Native.Nat.{◌≤◌, min}
 use mathlib.Core.Path.{ap, ◌∙◌}
-use borrow.Author.Rules.{rules}
 use native.Mathlib.Nat.{mul-le-mul_right}
 use native.Mathlib.Omega.{arith}
 use Rattle.plan.specs.declared.boundaries.Rejection.{Rejection}

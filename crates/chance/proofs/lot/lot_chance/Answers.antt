@@ -1,7 +1,5 @@
 -- `chance::lot_chance` meets its contract: row by row of the refusals, and then both bounds. Assumes nothing.
 use mathlib.Core.Path.{refl, sym, ◌∙◌}
-use borrow.Author.Rules.{rules}
-use borrow.Author.Tests.{not-true, not-false}
 use native.Mathlib.Omega.{arith}
 use lib.ListN.{length}
 use Rattle.plan.proofs.Promise.{shape}

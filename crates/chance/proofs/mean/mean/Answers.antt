@@ -1,7 +1,6 @@
 -- `chance::mean` meets its contract: no product or sum is too large. Assumes nothing.
 use Prim.Native.Nat.{ℕ, ◌+◌, ◌*◌, ◌/◌, ◌≤◌}
 use mathlib.Core.Path.{sym, ap, ◌∙◌}
-use borrow.Author.Rules.{rules}
 use native.Mathlib.Omega.{arith}
 use Rattle.chance.specs.Bounds.{weight_sum, weighted}
 use Rattle.chance.proofs.Reciprocals.{scaled, scaled_fits}

@@ -1,5 +1,4 @@
 -- `chance::rounded_by` meets its contract. Assumes nothing.
-use borrow.Author.Rules.{rules}
 use native.Mathlib.Omega.{arith}
 use Rattle.chance.proofs.mean.rounded_by.Goals as goal
 

@@ -1,5 +1,4 @@
 -- `chance::constant_row` meets its contract: decided states, then the others. Assumes nothing.
-use borrow.Author.Rules.{rules}
 use native.Mathlib.Omega.{arith}
 use Rattle.chance.proofs.InRow.{constant_between, decided_valued, row_all}
 use Rattle.chance.proofs.row.constant_row.Goals as goal

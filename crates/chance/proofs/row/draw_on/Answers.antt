@@ -1,7 +1,7 @@
 use Prim.Native.Nat.{◌+◌, ◌-◌, ◌≤◌}
 use mathlib.Core.Path.{◌≡◌, ◌∙◌}
 use native.Mathlib.Omega.{arith}
-use Rattle.chance.specs.Layer.{rounding, FurtherTo}
+use Rattle.chance.specs.Layer.{rounding}
 use Rattle.chance.proofs.States.{mean_at_most, further_is}
 use Rattle.chance.proofs.InRow.{row_room, further_none, further_more, further_all, reading, turn}
 use Rattle.chance.proofs.row.draw_on.Goals as goal
@@ -71,9 +71,9 @@ overflow_add-g-in-loop-b c = omega (arith, c.requires.between)
 
 pub value_at-marginal-requires : goal.value_at-marginal-requires
 value_at-marginal-requires c = record {
-      r2_in_bounds = omega (arith, c.loop-b.invariant.same, c.requires.valued.room);
-      b_lt_r2 = omega (arith, c.loop-b.invariant.at_most, c.requires.between.upto);
-    }
+  r2_in_bounds = omega (arith, c.loop-b.invariant.same, c.requires.valued.room);
+  b_lt_r2 = omega (arith, c.loop-b.invariant.at_most, c.requires.between.upto);
+}
 
 pub weights_at-w-requires : goal.weights_at-w-requires
 weights_at-w-requires c = omega (arith, c.loop-b.invariant.at_most, c.requires.between)

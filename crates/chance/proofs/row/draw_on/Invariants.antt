@@ -1,10 +1,5 @@
 -- `chance::draw_on` meets its contract: as `go_on` does. Assumes nothing.
-use Prim.Native.Nat.{◌+◌, ◌-◌, ◌≤◌}
-use mathlib.Core.Path.{◌≡◌, ◌∙◌}
-use native.Mathlib.Omega.{arith}
-use Rattle.chance.specs.Layer.{rounding, FurtherTo}
-use Rattle.chance.proofs.States.{mean_at_most, further_is}
-use Rattle.chance.proofs.InRow.{row_room, further_none, further_more, further_all, reading, turn}
+use Rattle.chance.specs.Layer.{FurtherTo}
 use Rattle.chance.proofs.row.draw_on.Given as goal
 
 abbrev pub invariant-loop-b : goal.invariant-loop-b

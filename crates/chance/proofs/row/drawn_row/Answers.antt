@@ -1,5 +1,4 @@
 -- `chance::drawn_row` meets its contract: decided states, then the others. Assumes nothing.
-use borrow.Author.Rules.{rules}
 use native.Mathlib.Omega.{arith}
 use Rattle.chance.proofs.InRow.{decided_valued, row_all}
 use Rattle.chance.proofs.row.drawn_row.Goals as goal

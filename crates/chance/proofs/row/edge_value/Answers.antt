@@ -1,6 +1,5 @@
 -- `chance::edge_value` meets its contract: a state's word, or the row is at its end. Assumes nothing.
 use mathlib.Core.Path.{sym}
-use borrow.Author.Rules.{rules}
 use native.Mathlib.Omega.{arith}
 use Rattle.chance.proofs.States.{word_past}
 use Rattle.chance.proofs.row.edge_value.Goals as goal

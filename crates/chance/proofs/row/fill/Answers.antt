@@ -1,6 +1,5 @@
-use Prim.Native.Nat.{◌-◌}
 use native.Mathlib.Omega.{arith}
-use Rattle.chance.proofs.InRow.{FillTo, fill_none, fill_more, fill_all}
+use Rattle.chance.proofs.InRow.{fill_none, fill_more, fill_all}
 use Rattle.chance.proofs.row.fill.Goals as goal
 
 pub loop-i-init : goal.loop-i-init

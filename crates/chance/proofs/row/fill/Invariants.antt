@@ -1,7 +1,6 @@
 -- `chance::fill` meets its contract: the words before i are filled, the others are as they were. Assumes nothing.
 use Prim.Native.Nat.{◌-◌}
-use native.Mathlib.Omega.{arith}
-use Rattle.chance.proofs.InRow.{FillTo, fill_none, fill_more, fill_all}
+use Rattle.chance.proofs.InRow.{FillTo}
 use Rattle.chance.proofs.row.fill.Given as goal
 
 abbrev pub invariant-loop-i : goal.invariant-loop-i

@@ -1,8 +1,7 @@
-use Prim.Native.Nat.{◌+◌, ◌-◌, ◌%◌, ◌≤◌}
-use mathlib.Core.Path.{◌≡◌}
+use Prim.Native.Nat.{◌+◌, ◌-◌, ◌≤◌}
 use native.Mathlib.Omega.{arith}
 use Rattle.chance.specs.Layer.{FurtherTo}
-use Rattle.chance.proofs.InRow.{row_room, further_nothing, further_all, Descent, descent, legible, state_more, Onward, fours, four_left, four_less}
+use Rattle.chance.proofs.InRow.{row_room, further_nothing, further_all, Descent, descent, legible, state_more, fours, four_left, four_less}
 use Rattle.chance.proofs.row.go_on.Goals as goal
 
 pub odd_states-bad-requires : goal.odd_states-bad-requires

@@ -1,9 +1,7 @@
 -- `chance::go_on` meets its contract: the states from b on are done, the places before are as they were. Assumes nothing.
-use Prim.Native.Nat.{◌+◌, ◌-◌, ◌%◌, ◌≤◌}
+use Prim.Native.Nat.{◌-◌, ◌%◌, ◌≤◌}
 use mathlib.Core.Path.{◌≡◌}
-use native.Mathlib.Omega.{arith}
-use Rattle.chance.specs.Layer.{FurtherTo}
-use Rattle.chance.proofs.InRow.{row_room, further_nothing, further_all, Descent, descent, legible, state_more, Onward, fours, four_left, four_less}
+use Rattle.chance.proofs.InRow.{Onward}
 use Rattle.chance.proofs.row.go_on.Given as goal
 
 abbrev pub invariant-loop-b : goal.invariant-loop-b

@@ -1,9 +1,6 @@
 -- `chance::odd_states` meets its contract: the states from b on are done. Assumes nothing.
-use Prim.Native.Nat.{ℕ, ◌+◌, ◌-◌, ◌%◌, ◌≤◌}
-use mathlib.Core.Path.{◌≡◌, subst}
-use native.Mathlib.Omega.{arith}
+use Prim.Native.Nat.{◌-◌, ◌%◌, ◌≤◌}
 use Rattle.chance.specs.Layer.{FurtherTo}
-use Rattle.chance.proofs.InRow.{row_room, further_none, descent, legible, state_more, odd_some, odd_less, odd_none}
 use Rattle.chance.proofs.row.odd_states.Given as goal
 
 abbrev pub invariant-loop-b : goal.invariant-loop-b

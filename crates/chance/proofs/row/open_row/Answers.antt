@@ -1,5 +1,4 @@
 -- `chance::open_row` meets its contract: decided states, then the others. Assumes nothing.
-use borrow.Author.Rules.{rules}
 use native.Mathlib.Omega.{arith}
 use Rattle.chance.proofs.InRow.{constant_between, decided_valued, row_all}
 use Rattle.chance.proofs.row.open_row.Goals as goal
@@ -17,9 +16,9 @@ go_on-requires c =
 
 pub write_decided-undecided-requires : goal.write_decided-undecided-requires
 write_decided-undecided-requires c = let pre = c.requires in record {
-      valued = pre.valued;
-      g_lt_r1 = omega (arith, pre.g_bound);
-    }
+  valued = pre.valued;
+  g_lt_r1 = omega (arith, pre.g_bound);
+}
 
 pub returns : goal.returns
 returns c = row_all c.write_decided-undecided.ensures c.go_on.ensures

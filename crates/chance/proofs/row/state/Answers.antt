@@ -2,11 +2,10 @@
 use mathlib.Core.Path.{refl, ap}
 use Prim.Native.Nat.{ℕ, ◌+◌}
 use lib.ListN.{set}
-use borrow.Author.Rules.{rules}
 use Rattle.chance.proofs.row.state.Goals as goal
 
 pub returns : goal.returns
 returns c = let a = c.args in record {
-      value = refl;
-      layer_after = ap (λ (v : ℕ). set a.layer.now (a.row + a.b) v) c.constant_mean.ensures;
-    }
+  value = refl;
+  layer_after = ap (λ (v : ℕ). set a.layer.now (a.row + a.b) v) c.constant_mean.ensures;
+}

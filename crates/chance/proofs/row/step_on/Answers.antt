@@ -1,7 +1,7 @@
 use Prim.Native.Nat.{◌+◌, ◌-◌, ◌≤◌}
 use mathlib.Core.Path.{◌≡◌, refl, ◌∙◌}
 use native.Mathlib.Omega.{arith}
-use Rattle.chance.specs.Layer.{at, FurtherTo}
+use Rattle.chance.specs.Layer.{at}
 use Rattle.chance.proofs.States.{constant_weights, further_is}
 use Rattle.chance.proofs.InRow.{row_room, further_none, further_more, further_all, reading}
 use Rattle.chance.proofs.row.step_on.Goals as goal
@@ -49,9 +49,9 @@ overflow_add-g-in-loop-b c = omega (arith, c.requires.between)
 
 pub value_at-marginal-requires : goal.value_at-marginal-requires
 value_at-marginal-requires c = record {
-      r2_in_bounds = omega (arith, c.loop-b.invariant.same, c.requires.valued.room);
-      b_lt_r2 = omega (arith, c.loop-b.invariant.at_most, c.requires.between.upto);
-    }
+  r2_in_bounds = omega (arith, c.loop-b.invariant.same, c.requires.valued.room);
+  b_lt_r2 = omega (arith, c.loop-b.invariant.at_most, c.requires.between.upto);
+}
 
 pub offset_bounds-layer-place : goal.offset_bounds-layer-place
 offset_bounds-layer-place c = omega (arith, (reading c.loop-b.invariant (omega (arith, c.loop-b-test.true)) c.requires.valued c.requires.between).place)

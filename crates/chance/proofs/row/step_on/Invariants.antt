@@ -1,10 +1,5 @@
 -- `chance::step_on` meets its contract: as `draw_on` does. Assumes nothing.
-use Prim.Native.Nat.{◌+◌, ◌-◌, ◌≤◌}
-use mathlib.Core.Path.{◌≡◌, refl, ◌∙◌}
-use native.Mathlib.Omega.{arith}
-use Rattle.chance.specs.Layer.{at, FurtherTo}
-use Rattle.chance.proofs.States.{constant_weights, further_is}
-use Rattle.chance.proofs.InRow.{row_room, further_none, further_more, further_all, reading}
+use Rattle.chance.specs.Layer.{FurtherTo}
 use Rattle.chance.proofs.row.step_on.Given as goal
 
 abbrev pub invariant-loop-b : goal.invariant-loop-b

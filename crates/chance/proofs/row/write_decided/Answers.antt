@@ -1,5 +1,4 @@
 -- `chance::write_decided` meets its contract: rejected states, then accepted ones. Assumes nothing.
-use borrow.Author.Rules.{rules}
 use native.Mathlib.Omega.{arith}
 use Rattle.chance.proofs.InRow.{row_room, row_decided}
 use Rattle.chance.proofs.row.write_decided.Goals as goal

@@ -1,7 +1,6 @@
 -- `chance::reciprocal_at` meets its contract. Assumes nothing.
 use mathlib.Core.Path.{sym, ◌∙◌}
 use mathlib.Core.Bool.{true≢false}
-use borrow.Author.Rules.{rules}
 use Rattle.chance.proofs.setting.reciprocal_at.Goals as goal
 
 pub returns-then-rest-gt0 : goal.returns-then-rest-gt0

@@ -1,7 +1,6 @@
 -- `chance::weights_at` meets its contract: constant weights, or what is left of each class. Assumes nothing.
 use mathlib.Core.Path.{sym, ap, ◌∙◌}
 use mathlib.Core.Bool.{Bool, cond}
-use borrow.Author.Rules.{rules}
 use Rattle.chance.specs.Chance.{left_of}
 use Rattle.chance.specs.Layer.{at}
 use Rattle.chance.proofs.setting.weights_at.Goals as goal

@@ -1,11 +1,10 @@
-use Prim.Native.Nat.{◌+◌, ◌-◌, ◌≤◌}
+use Prim.Native.Nat.{◌+◌, ◌≤◌}
 use native.Mathlib.Omega.{arith}
 use mathlib.Core.Path.{sym, ◌∙◌}
 use lib.ListN.{length, length-drop, drop}
-use borrow.Author.Rules.{rules}
 use Rattle.commandmodel.specs.Command.{space}
 use Rattle.command.proofs.OneField.{until_within}
-use Rattle.command.proofs.OneNumber.{Reading, started, no_room, all_numbers, bad_number, next_number}
+use Rattle.command.proofs.OneNumber.{started, no_room, all_numbers, bad_number, next_number}
 use Rattle.command.proofs.arguments.read_numbers.Goals as goal
 
 pub loop-at-init : goal.loop-at-init

@@ -1,12 +1,7 @@
 -- `command::read_numbers` meets its contract. The loop's invariant is `Reading`. Assumes nothing.
-use Prim.Native.Nat.{◌+◌, ◌-◌, ◌≤◌}
-use native.Mathlib.Omega.{arith}
-use mathlib.Core.Path.{sym, ◌∙◌}
-use lib.ListN.{length, length-drop, drop}
-use borrow.Author.Rules.{rules}
-use Rattle.commandmodel.specs.Command.{space}
-use Rattle.command.proofs.OneField.{until_within}
-use Rattle.command.proofs.OneNumber.{Reading, started, no_room, all_numbers, bad_number, next_number}
+use Prim.Native.Nat.{◌-◌}
+use lib.ListN.{length}
+use Rattle.command.proofs.OneNumber.{Reading}
 use Rattle.command.proofs.arguments.read_numbers.Given as goal
 
 abbrev pub invariant-loop-at : goal.invariant-loop-at

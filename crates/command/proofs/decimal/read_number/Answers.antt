@@ -1,11 +1,9 @@
-use Prim.Native.Nat.{ℕ, ◌-◌, ◌≤◌, ◌<◌, ◌^◌}
+use Prim.Native.Nat.{ℕ}
 use native.Mathlib.Omega.{arith}
 use mathlib.Core.Bool.{true}
 use mathlib.Core.Path.{◌≡◌, ap, sym, ◌∙◌}
-use lib.ListN.{length, get_or, drop}
-use borrow.Author.Rules.{rules}
-use borrow.Author.Tests.{not-true, not-false}
-use Rattle.commandmodel.specs.Decimal.{is_digit, with_digits, up_to_largest}
+use lib.ListN.{get_or}
+use Rattle.commandmodel.specs.Decimal.{is_digit, up_to_largest}
 use Rattle.command.specs.Read.{as_number}
 use Rattle.commandmodel.proofs.Digits.{no_field, long_field, field_value, next_digit, no_digit, digit_below, digit_bounds, all_digits, above_largest, within_largest}
 use Rattle.command.proofs.decimal.read_number.Goals as goal

@@ -1,9 +1,4 @@
-use Prim.Native.Nat.{◌+◌, ◌-◌, ◌≤◌}
 use native.Mathlib.Omega.{arith}
-use mathlib.Core.Path.{◌≡◌}
-use lib.ListN.{length, drop}
-use borrow.Author.Rules.{rules}
-use Rattle.command.specs.Fields.{until}
 use Rattle.command.proofs.OneField.{at_stop, no_stop, at_end}
 use Rattle.command.proofs.fields.find.Goals as goal
 

@@ -1,11 +1,8 @@
 -- `command::find` meets its contract. The loop's invariant: no byte `stop` stands from `at` to i. Assumes nothing.
 use Prim.Native.Nat.{◌+◌, ◌-◌, ◌≤◌}
-use native.Mathlib.Omega.{arith}
 use mathlib.Core.Path.{◌≡◌}
 use lib.ListN.{length, drop}
-use borrow.Author.Rules.{rules}
 use Rattle.command.specs.Fields.{until}
-use Rattle.command.proofs.OneField.{at_stop, no_stop, at_end}
 use Rattle.command.proofs.fields.find.Given as goal
 
 abbrev pub invariant-loop-i : goal.invariant-loop-i

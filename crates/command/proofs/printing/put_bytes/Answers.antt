@@ -1,7 +1,7 @@
-use Prim.Native.Nat.{◌+◌, ◌-◌, ◌≤◌}
+use Prim.Native.Nat.{◌+◌}
 use native.Mathlib.Omega.{arith}
-use mathlib.Core.Path.{◌≡◌, ap, ◌∙◌}
-use lib.ListN.{length, length-set, get_or, take}
+use mathlib.Core.Path.{ap, ◌∙◌}
+use lib.ListN.{length-set, get_or}
 use lib.Seq.{take_all}
 use borrow.Author.Rules.{rules}
 use Rattle.command.specs.Written.{written}

@@ -1,12 +1,8 @@
 -- `command::put_bytes` meets its contract. The loop's invariant: the first i bytes are written. Assumes nothing.
-use Prim.Native.Nat.{◌+◌, ◌-◌, ◌≤◌}
-use native.Mathlib.Omega.{arith}
-use mathlib.Core.Path.{◌≡◌, ap, ◌∙◌}
-use lib.ListN.{length, length-set, get_or, take}
-use lib.Seq.{take_all}
-use borrow.Author.Rules.{rules}
+use Prim.Native.Nat.{◌-◌, ◌≤◌}
+use mathlib.Core.Path.{◌≡◌}
+use lib.ListN.{length, take}
 use Rattle.command.specs.Written.{written}
-use Rattle.command.proofs.Writing.{written_nothing, next_byte}
 use Rattle.command.proofs.printing.put_bytes.Given as goal
 
 abbrev pub invariant-loop-i : goal.invariant-loop-i

@@ -1,9 +1,8 @@
-use Prim.Native.Nat.{◌-◌, ◌≤◌}
+use Prim.Native.Nat.{◌≤◌}
 use native.Mathlib.Omega.{arith}
-use lib.ListN.{length, length-set, get_or}
-use borrow.Author.Rules.{rules}
+use lib.ListN.{length-set, get_or}
 use Rattle.sheetmodel.specs.Layout.{largest}
-use Rattle.command.proofs.Writing.{Spaced, none_spaced, same, all_spaced, room, next_spaced}
+use Rattle.command.proofs.Writing.{none_spaced, same, all_spaced, room, next_spaced}
 use Rattle.command.proofs.printing.put_numbers.Goals as goal
 
 pub loop-i-init : goal.loop-i-init

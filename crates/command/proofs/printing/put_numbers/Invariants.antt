@@ -1,10 +1,7 @@
 -- `command::put_numbers` meets its contract. The loop's invariant is `Spaced`. Assumes nothing.
-use Prim.Native.Nat.{◌-◌, ◌≤◌}
-use native.Mathlib.Omega.{arith}
-use lib.ListN.{length, length-set, get_or}
-use borrow.Author.Rules.{rules}
-use Rattle.sheetmodel.specs.Layout.{largest}
-use Rattle.command.proofs.Writing.{Spaced, none_spaced, same, all_spaced, room, next_spaced}
+use Prim.Native.Nat.{◌-◌}
+use lib.ListN.{length}
+use Rattle.command.proofs.Writing.{Spaced}
 use Rattle.command.proofs.printing.put_numbers.Given as goal
 
 abbrev pub invariant-loop-i : goal.invariant-loop-i

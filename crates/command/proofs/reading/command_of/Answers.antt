@@ -2,7 +2,6 @@
 use native.Mathlib.Omega.{arith}
 use mathlib.Core.Bool.{true, false}
 use mathlib.Core.Path.{sym, ◌∙◌}
-use borrow.Author.Rules.{rules}
 use Rattle.command.proofs.Letters.{p_plan, i_class, i_bad, t_none, t_bad, o_lot, s_lot, l_lot, c_lot, lot_bad, no_letter}
 use Rattle.command.proofs.reading.command_of.Goals as goal
 

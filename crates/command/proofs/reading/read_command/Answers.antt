@@ -4,7 +4,6 @@ use native.Mathlib.Omega.{arith}
 use mathlib.Core.Path.{◌≡◌, sym, ◌∙◌}
 use mathlib.Core.List.{List}
 use lib.ListN.{length, take, get_or}
-use borrow.Author.Rules.{rules}
 use Rattle.commandmodel.specs.Command.{space, forms, by_letter, command}
 use Rattle.command.specs.Fields.{until}
 use Rattle.command.specs.Read.{most_numbers}

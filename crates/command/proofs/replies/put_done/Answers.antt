@@ -1,5 +1,4 @@
 -- `command::put_done` meets its contract, case by case. Assumes nothing.
-use borrow.Author.Rules.{rules}
 use Rattle.command.proofs.replies.put_done.Goals as goal
 
 pub returns-in-Ok : goal.returns-in-Ok

@@ -2,7 +2,6 @@
 use native.Mathlib.Omega.{arith}
 use mathlib.Core.Path.{◌∙◌}
 use lib.ListN.{length-set}
-use borrow.Author.Rules.{rules}
 use Rattle.commandmodel.specs.Printed.{end_of_line}
 use Rattle.command.proofs.Writing.{line_room, line_length, line_written}
 use Rattle.command.proofs.replies.put_line.Goals as goal

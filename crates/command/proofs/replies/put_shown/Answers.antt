@@ -1,5 +1,4 @@
 -- `command::put_shown` meets its contract, state by state. Assumes nothing.
-use borrow.Author.Rules.{rules}
 use Rattle.command.proofs.replies.put_shown.Goals as goal
 
 pub returns-in-GoOn : goal.returns-in-GoOn

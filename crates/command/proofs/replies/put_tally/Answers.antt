@@ -1,5 +1,4 @@
 -- `command::put_tally` meets its contract, case by case. Assumes nothing.
-use borrow.Author.Rules.{rules}
 use Rattle.command.proofs.replies.put_tally.Goals as goal
 
 pub returns-in-Refused : goal.returns-in-Refused

@@ -5,7 +5,6 @@ use mathlib.Core.List.{List}
 use Prim.Native.Nat.{ℕ, ◌≤◌}
 use lib.ListN.{length, take}
 use lib.Seq.{length-take-le}
-use borrow.Author.Rules.{rules}
 use Rattle.commandmodel.specs.Printed.{answer}
 use Rattle.commandmodel.specs.Blocks.{kept}
 use Rattle.commandmodel.proofs.Blocks.{kept_law, kept_within}

@@ -5,7 +5,7 @@ use lib.ListN.{length, length-drop}
 use borrow.Author.Rules.{part_to_end}
 use Rattle.commandmodel.specs.Blocks.{most_kept}
 use Rattle.commandmodel.specs.Printed.{longest_reply}
-use Rattle.command.proofs.Pieces.{Taking, begins, replies_length, short_of_room, all_taken, inside, last_bytes, next_line}
+use Rattle.command.proofs.Pieces.{begins, replies_length, short_of_room, all_taken, inside, last_bytes, next_line}
 use Rattle.command.proofs.taking.take_bytes.Goals as goal
 
 pub loop-at-init : goal.loop-at-init

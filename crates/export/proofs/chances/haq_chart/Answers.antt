@@ -1,5 +1,4 @@
 -- `export::haq_chart` meets its contract, case by case. Assumes nothing.
-use borrow.Author.Rules.{rules}
 use Rattle.export.proofs.chances.haq_chart.Goals as goal
 
 pub returns-in-Refused : goal.returns-in-Refused

@@ -1,5 +1,4 @@
 -- `export::haq_units` meets its contract, case by case. Assumes nothing.
-use borrow.Author.Rules.{rules}
 use Rattle.export.proofs.chances.haq_units.Goals as goal
 
 pub returns-in-Refused : goal.returns-in-Refused

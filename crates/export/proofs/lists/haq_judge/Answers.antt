@@ -4,7 +4,6 @@ use Prim.Native.Nat.{ℕ, ◌≤◌}
 use native.Mathlib.Omega.{arith}
 use mathlib.Core.Path.{◌≡◌, refl, sym, ◌∙◌}
 use mathlib.Core.List.{List}
-use borrow.Author.Rules.{rules}
 use Rattle.plan.specs.declared.ways.StageWay.TheVariants.{Uncurtailed, Semi, Full}
 use Rattle.plan.specs.declared.ways.Way.TheVariants.{Staged, Earliest}
 use Rattle.plan.specs.Counts.{units}
@@ -14,7 +13,6 @@ use Rattle.judge.specs.declared.list.Judged.TheVariants.{Stops}
 use Rattle.judge.specs.Judge.{judged}
 use Rattle.judge.proofs.Laws.{granted_rightly, stop_laws}
 use Rattle.export.proofs.lists.haq_judge.Goals as goal
-
 
 record Short (j : Judgement) : Type 0 where
   pub uncurtailed : units j.uncurtailed.counts ≤ 1000

@@ -1,5 +1,4 @@
 -- `export::haq_estimate` meets its contract, case by case. Assumes nothing.
-use borrow.Author.Rules.{rules}
 use mathlib.Core.Path.{refl}
 use Rattle.export.proofs.sheet_calls.haq_estimate.Goals as goal
 

@@ -1,5 +1,4 @@
 -- `export::haq_inspect` meets its contract. Assumes nothing.
-use borrow.Author.Rules.{rules}
 use Rattle.export.proofs.sheet_calls.haq_inspect.Goals as goal
 
 pub returns : goal.returns

@@ -1,5 +1,4 @@
 -- `export::haq_open` meets its contract. Assumes nothing.
-use borrow.Author.Rules.{rules}
 use Rattle.export.proofs.sheet_calls.haq_open.Goals as goal
 
 pub returns : goal.returns

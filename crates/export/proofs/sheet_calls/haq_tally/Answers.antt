@@ -1,5 +1,4 @@
 -- `export::haq_tally` meets its contract, case by case. Assumes nothing.
-use borrow.Author.Rules.{rules}
 use mathlib.Core.Path.{refl}
 use Rattle.export.proofs.sheet_calls.haq_tally.Goals as goal
 

@@ -1,5 +1,4 @@
 -- `judge::event_of` meets its contract: one stage, and a stop. Assumes nothing.
-use borrow.Author.Rules.{rules}
 use borrow.Author.Tests.{eq-eqb, ne_eqb}
 use Rattle.plan.proofs.Promise.{one_stage}
 use Rattle.judge.proofs.event.event_of.Goals as goal

@@ -1,11 +1,9 @@
-use Prim.Native.Nat.{◌-◌, ◌≤◌}
-use mathlib.Core.Path.{◌≡◌, sym, ◌∙◌}
-use mathlib.Core.Logic.{⊎_elim}
-use mathlib.Core.Bool.{◌&&◌, and-true}
-use lib.ListN.{length, drop, drop_of_length-le}
+use mathlib.Core.Path.{sym, ◌∙◌}
+use mathlib.Core.Bool.{and-true}
+use lib.ListN.{drop_of_length-le}
 use lib.Dec.{leb}
 use borrow.Author.Rules.{rules}
-use Rattle.plan.specs.Sample.{highest_class, are_classes}
+use Rattle.plan.specs.Sample.{highest_class}
 use Rattle.plan.proofs.Sample.{classing}
 use Rattle.judge.proofs.Along.{class_greater, class_no_greater}
 use Rattle.judge.proofs.list.are_classes.Goals as goal
@@ -18,8 +16,8 @@ loop-i-preserved c =
     let h = c.loop-i-test.true in (
       search rules,
       l.invariant.1 ∙ elim c.if-greatest-list.branch [
-        then-greatest-list w ↦ rw w.greatest-is (class_greater xs l.i l.greatest h w.if-greatest-list.true)
-      | else-greatest-list w ↦ rw w.greatest-is (class_no_greater xs l.i l.greatest h w.if-greatest-list.false)
+        | then-greatest-list w ↦ rw w.greatest-is (class_greater xs l.i l.greatest h w.if-greatest-list.true)
+        | else-greatest-list w ↦ rw w.greatest-is (class_no_greater xs l.i l.greatest h w.if-greatest-list.false)
       ],
     )
 

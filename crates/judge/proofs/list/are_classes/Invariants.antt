@@ -1,15 +1,11 @@
 -- `judge::are_classes` meets its contract. The loop's invariant: the greatest class so far and the classes from i on decide.
 -- Assumes nothing.
 use Prim.Native.Nat.{◌-◌, ◌≤◌}
-use mathlib.Core.Path.{◌≡◌, sym, ◌∙◌}
-use mathlib.Core.Logic.{⊎_elim}
-use mathlib.Core.Bool.{◌&&◌, and-true}
-use lib.ListN.{length, drop, drop_of_length-le}
+use mathlib.Core.Path.{◌≡◌}
+use mathlib.Core.Bool.{◌&&◌}
+use lib.ListN.{length, drop}
 use lib.Dec.{leb}
-use borrow.Author.Rules.{rules}
 use Rattle.plan.specs.Sample.{highest_class, are_classes}
-use Rattle.plan.proofs.Sample.{classing}
-use Rattle.judge.proofs.Along.{class_greater, class_no_greater}
 use Rattle.judge.proofs.list.are_classes.Given as goal
 
 abbrev pub invariant-loop-i : goal.invariant-loop-i

@@ -1,8 +1,6 @@
 -- `judge::judge` meets its contract: the refusals in their order, and then the four ways and the event. Assumes nothing.
 use Prim.Native.Nat.{ℕ}
 use native.Mathlib.Omega.{arith}
-use borrow.Author.Rules.{rules}
-use borrow.Author.Tests.{not-true, not-false}
 use mathlib.Core.Bool.{true, false, not}
 use mathlib.Core.Logic.{inl, inr}
 use mathlib.Core.List.{List}
@@ -16,7 +14,6 @@ use Rattle.judge.specs.Judge.{refusals, judgement, judged}
 use Rattle.judge.specs.Run.{semi_stop}
 use Rattle.judge.proofs.FromFull.{in_plan, semi_is}
 use Rattle.judge.proofs.list.judge.Goals as goal
-
 
 module _ (w xs : List ℕ) where
   no_plan : admitted w ≡ false → Refused 2 ≡ judged w xs

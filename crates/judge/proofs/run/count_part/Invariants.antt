@@ -1,15 +1,9 @@
 -- `judge::count_part` meets its contract. The loop's invariant: the counters have the units of the first i classes.
 -- Assumes nothing.
 use Prim.Native.Nat.{◌-◌, ◌≤◌}
-use native.Mathlib.Omega.{arith}
-use mathlib.Core.Path.{◌≡◌, ap, sym, ◌∙◌}
+use mathlib.Core.Path.{◌≡◌}
 use lib.ListN.{length, take}
-use lib.Seq.{take_all}
-use borrow.Author.Rules.{rules}
-use Rattle.plan.specs.declared.counts.Counts.{Counts}
-use Rattle.plan.specs.Counts.{units, nongood, counts}
-use Rattle.plan.proofs.Promise.{counting}
-use Rattle.judge.proofs.Runs.{same_counts, units_to, next_class}
+use Rattle.plan.specs.Counts.{nongood, counts}
 use Rattle.judge.proofs.run.count_part.Given as goal
 
 abbrev pub invariant-loop-i : goal.invariant-loop-i

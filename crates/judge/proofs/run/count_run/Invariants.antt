@@ -1,15 +1,8 @@
 -- `judge::count_run` meets its contract. The loop's invariant: c counts the first i classes too. Assumes nothing.
 use Prim.Native.Nat.{◌+◌, ◌-◌, ◌≤◌}
-use native.Mathlib.Omega.{arith}
-use mathlib.Core.Path.{◌≡◌, ap, sym, ◌∙◌}
+use mathlib.Core.Path.{◌≡◌}
 use lib.ListN.{length, take}
-use lib.Seq.{take_all}
-use borrow.Author.Rules.{rules}
-use Rattle.plan.specs.declared.counts.Counts.{Counts}
 use Rattle.plan.specs.Counts.{units, counts_after}
-use Rattle.plan.proofs.Promise.{counting}
-use Rattle.judge.specs.Run.{both_counts}
-use Rattle.judge.proofs.Runs.{run, run_after, run_length, both_are}
 use Rattle.judge.proofs.run.count_run.Given as goal
 
 abbrev pub invariant-loop-i : goal.invariant-loop-i

@@ -1,12 +1,9 @@
-use Prim.Native.Nat.{ℕ, ◌+◌, ◌-◌, ◌≤◌, ◌<◌, min}
+use Prim.Native.Nat.{ℕ, ◌+◌, ◌≤◌, ◌<◌, min}
 use native.Mathlib.Omega.{arith}
 use mathlib.Core.Path.{◌≡◌, ap, sym, ◌∙◌}
 use mathlib.Core.Bool.{true}
 use mathlib.Core.List.{List}
 use lib.ListN.{length, take}
-use borrow.Author.Rules.{rules}
-use borrow.Author.Tests.{not-true, not-false}
-use Rattle.plan.specs.declared.stage.Answer.TheVariants.{GoOn}
 use Rattle.plan.specs.declared.ways.StageWay.TheVariants.{Full}
 use Rattle.plan.specs.declared.ways.Way.TheVariants.{Staged}
 use Rattle.plan.specs.Plan.{stages, total, admitted}
@@ -23,12 +20,11 @@ use Rattle.judge.proofs.FromFull.{units_left, all_read}
 use Rattle.judge.proofs.stop.before_full_stop.Goals as goal
 
 pub loop-i-init : goal.loop-i-init
-loop-i-init c =
-    (
-      omega arith,
-      c.no_units-c.ensures ∙ sym counting.empty,
-      λ z l. let none : z ≡ 0 = omega arith in rw none (at_none c.args.plan.now c.requires (Staged Full) c.args.list.now),
-    )
+loop-i-init c = (
+  omega arith,
+  c.no_units-c.ensures ∙ sym counting.empty,
+  λ z l. let none : z ≡ 0 = omega arith in rw none (at_none c.args.plan.now c.requires (Staged Full) c.args.list.now),
+)
 
 pub count_run-after-requires : goal.count_run-after-requires
 count_run-after-requires c =

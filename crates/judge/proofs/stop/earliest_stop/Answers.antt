@@ -2,7 +2,6 @@
 use Prim.Native.Nat.{ℕ}
 use native.Mathlib.Omega.{arith}
 use mathlib.Core.Path.{◌≡◌, ap, ◌∙◌}
-use borrow.Author.Rules.{rules}
 use Rattle.plan.specs.Plan.{stages}
 use Rattle.plan.specs.Counts.{units, nongood}
 use Rattle.plan.specs.Boundaries.{accept_limit}
@@ -25,8 +24,7 @@ returns-then-accept_limit-before c =
 pub before_stop-sooner-requires : goal.before_stop-sooner-requires
 before_stop-sooner-requires c =
     let limit_is : c.accept_limit.result ≡ accept_limit 0 (stages c.args.plan.now) (units c.args.before) (nongood c.args.before) = let s = c.args in
-    c.accept_limit.ensures ∙ ap (λ (n : ℕ). accept_limit 0 (stages s.plan.now) n (nongood s.before)) c.units-end.ensures in
-    (
+    c.accept_limit.ensures ∙ ap (λ (n : ℕ). accept_limit 0 (stages s.plan.now) n (nongood s.before)) c.units-end.ensures in (
       c.requires.0,
       rw c.units-end.ensures
           (earliest_between c.args.plan.now c.requires.0 c.args.list.now c.args.full c.requires.2 c.args.before c.requires.3 _ c.no_units.ensures

@@ -1,5 +1,4 @@
 -- `judge::no_stop` meets its contract. Assumes nothing.
-use borrow.Author.Rules.{rules}
 use Rattle.judge.proofs.stop.no_stop.Goals as goal
 
 pub returns : goal.returns

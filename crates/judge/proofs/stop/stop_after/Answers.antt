@@ -1,7 +1,6 @@
 -- `judge::stop_after` meets its contract. Assumes nothing.
 use native.Mathlib.Omega.{arith}
 use mathlib.Core.Path.{◌≡◌, ap, sym, ◌∙◌}
-use borrow.Author.Rules.{rules}
 use Rattle.plan.specs.Plan.{stages}
 use Rattle.plan.specs.Counts.{no_units}
 use Rattle.plan.specs.Stopping.{answer}

@@ -5,7 +5,6 @@ use mathlib.Core.Path.{◌≡◌, ap, sym, ◌∙◌}
 use mathlib.Core.Bool.{false}
 use mathlib.Core.List.{List}
 use lib.ListN.{length}
-use borrow.Author.Rules.{rules}
 use Rattle.plan.specs.Plan.{stages, end_from}
 use Rattle.plan.specs.Counts.{units, counts_after}
 use Rattle.plan.proofs.Promise.{shape, promise, counting}

@@ -1,5 +1,4 @@
 -- `plan::admitted` meets its contract: the number of words, and then the rules. Assumes nothing.
-use borrow.Author.Rules.{rules}
 use native.Mathlib.Omega.{arith}
 use mathlib.Core.Path.{sym, ◌∙◌}
 use Rattle.plan.proofs.Marked.{at_numbered}

@@ -1,6 +1,5 @@
 -- `plan::row_end` meets its contract: each return is what the tests so far leave of `row_end`. Assumes nothing.
 use mathlib.Core.Bool.{and-false}
-use borrow.Author.Rules.{rules}
 use borrow.Author.Tests.{lt-ltb, le-ltb, eq-eqb, ne_eqb}
 use Rattle.plan.specs.Row.{row_end}
 use Rattle.plan.proofs.admission.row_end.Goals as goal

@@ -1,6 +1,5 @@
 -- `plan::row_step` meets its contract: each return is what the tests so far leave of `row_step`. Assumes nothing.
 use mathlib.Core.Bool.{and-false, and-true}
-use borrow.Author.Rules.{rules}
 use borrow.Author.Tests.{lt-ltb, le-ltb, le-leb, lt-leb}
 use Rattle.plan.specs.Row.{row_step}
 use Rattle.plan.proofs.admission.row_step.Goals as goal

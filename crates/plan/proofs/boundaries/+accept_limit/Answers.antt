@@ -1,8 +1,6 @@
-use Prim.Native.Nat.{ℕ, ◌+◌, ◌-◌, ◌<◌}
-use borrow.Author.Rules.{rules}
+use Prim.Native.Nat.{◌+◌, ◌-◌}
 use native.Mathlib.Omega.{arith}
 use mathlib.Core.Path.{sym, ap, ◌∙◌}
-use lib.ListN.{length}
 use Rattle.plan.specs.Plan.{first}
 use Rattle.plan.specs.Boundaries.{stage_limit}
 use Rattle.plan.proofs.Stages.{total_more}

@@ -1,8 +1,5 @@
-use Prim.Native.Nat.{ℕ, ◌<◌}
-use borrow.Author.Rules.{rules}
 use native.Mathlib.Omega.{arith}
 use mathlib.Core.Path.{sym, ◌∙◌}
-use lib.ListN.{length}
 use Rattle.plan.proofs.Stages.{total_more}
 use Rattle.plan.proofs.RejectionNumbers.{numbers_none, numbers_first, numbers_rest}
 use Rattle.plan.proofs.boundaries.+rejection_at.Goals as goal

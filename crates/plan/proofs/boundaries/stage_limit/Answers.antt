@@ -1,5 +1,4 @@
 -- `plan::stage_limit` meets its contract: by the test of acceptance. Assumes nothing.
-use borrow.Author.Rules.{rules}
 use mathlib.Core.Path.{sym, ◌∙◌}
 use Rattle.plan.specs.Plan.{first}
 use Rattle.plan.proofs.AcceptLimit.{limit_over, limit_within}

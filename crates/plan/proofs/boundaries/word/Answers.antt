@@ -1,5 +1,4 @@
 -- `plan::word` meets its contract: a word fits. Assumes nothing.
-use borrow.Author.Rules.{rules}
 use mathlib.Core.Path.{refl}
 use native.Mathlib.Omega.{arith}
 use Rattle.plan.proofs.boundaries.word.Goals as goal

@@ -1,10 +1,7 @@
-use Prim.Native.Nat.{ℕ, ◌<◌}
-use borrow.Author.Rules.{rules}
 use native.Mathlib.Omega.{arith}
 use mathlib.Core.Path.{sym, ◌∙◌}
-use lib.ListN.{length}
 use Rattle.plan.specs.declared.stage.Answer.TheVariants.{GoOn, Accept, Reject}
-use Rattle.plan.specs.Stopping.{at_filled, completed, or_else}
+use Rattle.plan.specs.Stopping.{or_else}
 use Rattle.plan.proofs.Stages.{total_more}
 use Rattle.plan.proofs.FirstStage.{completed_none, completed_first}
 use Rattle.plan.proofs.completion.+completed.Goals as goal

@@ -1,16 +1,11 @@
 -- `plan::earliest` meets its contract: the worst case is accepted, or else the best case is rejected, or neither. Assumes nothing.
-use borrow.Author.Rules.{rules}
-use denote.Enum.Declared.{tag_of}
-use mathlib.Core.Logic.{◌⊎◌, ⊎_elim}
 use mathlib.Core.Path.{◌≡◌, refl, sym, ap, ap₂, ◌∙◌}
 use mathlib.Core.List.{List}
-use native.Mathlib.Omega.{arith}
 use Rattle.plan.specs.declared.counts.Counts.{Counts}
 use Rattle.plan.specs.declared.stage.Answer.{Answer}
 use Rattle.plan.specs.declared.stage.Answer.TheVariants.{GoOn, Accept, Reject}
 use Rattle.plan.specs.Plan.{Stage, stages}
 use Rattle.plan.specs.Stopping.{completed, settled, only_reject, earliest}
-use Rattle.plan.specs.contracts.stage.Answer.{the_type}
 use Rattle.plan.proofs.completion.earliest.Goals as goal
 
 -- an answer that is none of Accept, none of Reject

@@ -1,5 +1,4 @@
 -- `plan::add_units` meets its contract: each return is the class's case of `add_units`. Assumes nothing.
-use borrow.Author.Rules.{rules}
 use Rattle.plan.proofs.Counting.{add_good, add_bad, add_marginal}
 use Rattle.plan.proofs.counts.add_units.Goals as goal
 

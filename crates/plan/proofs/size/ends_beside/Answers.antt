@@ -1,9 +1,5 @@
-use Prim.Native.Nat.{◌+◌, ◌≤◌}
 use native.Mathlib.Omega.{arith}
-use mathlib.Core.Path.{◌≡◌, refl, sym, ◌∙◌}
-use lib.ListN.{length}
-use borrow.Author.Rules.{rules}
-use Rattle.plan.specs.Plan.{stages, total, end_below, end_from}
+use mathlib.Core.Path.{refl, sym, ◌∙◌}
 use Rattle.plan.proofs.Stages.{total_more}
 use Rattle.plan.proofs.FirstStage.{end_none, end_first, end_rest, from_none, from_first, from_rest}
 use Rattle.plan.proofs.size.ends_beside.Goals as goal

@@ -1,12 +1,8 @@
 -- `plan::ends_beside` meets its contract. The loop's invariant: the ends of the stages left are those of all. Assumes nothing.
 use Prim.Native.Nat.{◌+◌, ◌≤◌}
-use native.Mathlib.Omega.{arith}
-use mathlib.Core.Path.{◌≡◌, refl, sym, ◌∙◌}
+use mathlib.Core.Path.{◌≡◌}
 use lib.ListN.{length}
-use borrow.Author.Rules.{rules}
 use Rattle.plan.specs.Plan.{stages, total, end_below, end_from}
-use Rattle.plan.proofs.Stages.{total_more}
-use Rattle.plan.proofs.FirstStage.{end_none, end_first, end_rest, from_none, from_first, from_rest}
 use Rattle.plan.proofs.size.ends_beside.Given as goal
 
 abbrev pub invariant-loop-rest : goal.invariant-loop-rest

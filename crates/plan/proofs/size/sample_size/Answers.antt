@@ -1,9 +1,4 @@
-use Prim.Native.Nat.{◌+◌}
 use native.Mathlib.Omega.{arith}
-use mathlib.Core.Path.{◌≡◌}
-use lib.ListN.{length}
-use borrow.Author.Rules.{rules}
-use Rattle.plan.specs.Plan.{stages, total}
 use Rattle.plan.proofs.Stages.{total_none, total_more}
 use Rattle.plan.proofs.size.sample_size.Goals as goal
 

@@ -1,11 +1,8 @@
 -- `plan::sample_size` meets its contract. The loop's invariant: the units so far, and those of the stages left. Assumes nothing.
 use Prim.Native.Nat.{◌+◌}
-use native.Mathlib.Omega.{arith}
 use mathlib.Core.Path.{◌≡◌}
 use lib.ListN.{length}
-use borrow.Author.Rules.{rules}
 use Rattle.plan.specs.Plan.{stages, total}
-use Rattle.plan.proofs.Stages.{total_none, total_more}
 use Rattle.plan.proofs.size.sample_size.Given as goal
 
 abbrev pub invariant-loop-rest : goal.invariant-loop-rest

@@ -1,5 +1,4 @@
 -- `plan::at_end` meets its contract: rejection, then acceptance. Assumes nothing.
-use borrow.Author.Rules.{rules}
 use mathlib.Core.Path.{sym, ◌∙◌}
 use Rattle.plan.specs.Stopping.{at_end}
 use Rattle.plan.proofs.Decide.{decided_reject, decided_accept, decided_on}

@@ -1,5 +1,4 @@
 -- `plan::marked` meets its contract: one acceptance number, and then the other. Assumes nothing.
-use borrow.Author.Rules.{rules}
 use borrow.Author.Tests.{eq-eqb, ne_eqb}
 use Rattle.plan.specs.Plan.{first, marked}
 use Rattle.plan.proofs.stage.marked.Goals as goal

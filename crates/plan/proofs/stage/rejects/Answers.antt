@@ -1,5 +1,4 @@
 -- `plan::rejects` meets its contract: the test of bad units, and then that of nongood ones. Assumes nothing.
-use borrow.Author.Rules.{rules}
 use borrow.Author.Tests.{le-leb, lt-leb}
 use Rattle.plan.specs.Stopping.{rejects}
 use Rattle.plan.specs.Plan.{first}

@@ -1,5 +1,4 @@
 -- `plan::answer` meets its contract: one way after the other. Assumes nothing.
-use borrow.Author.Rules.{rules}
 use Rattle.plan.specs.Stopping.{staged, answer}
 use Rattle.plan.proofs.ways.answer.Goals as goal
 

@@ -1,5 +1,4 @@
 -- `plan::at_stage` meets its contract: one way after the other. Assumes nothing.
-use borrow.Author.Rules.{rules}
 use Rattle.plan.specs.Stopping.{at_stage}
 use Rattle.plan.proofs.ways.at_stage.Goals as goal
 

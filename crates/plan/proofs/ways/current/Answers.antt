@@ -1,10 +1,5 @@
-use Prim.Native.Nat.{◌+◌, ◌≤◌}
 use native.Mathlib.Omega.{arith}
-use mathlib.Core.Path.{◌≡◌, refl, sym, ◌∙◌}
-use lib.ListN.{length}
-use borrow.Author.Rules.{rules}
-use Rattle.plan.specs.Plan.{stages, total}
-use Rattle.plan.specs.Stopping.{at_stage, current}
+use mathlib.Core.Path.{refl, sym, ◌∙◌}
 use Rattle.plan.proofs.Stages.{total_more}
 use Rattle.plan.proofs.FirstStage.{current_none, current_first, current_rest}
 use Rattle.plan.proofs.ways.current.Goals as goal

@@ -1,13 +1,9 @@
 -- `plan::current` meets its contract. The loop's invariant: the stages left answer as all do. Assumes nothing.
 use Prim.Native.Nat.{◌+◌, ◌≤◌}
-use native.Mathlib.Omega.{arith}
-use mathlib.Core.Path.{◌≡◌, refl, sym, ◌∙◌}
+use mathlib.Core.Path.{◌≡◌}
 use lib.ListN.{length}
-use borrow.Author.Rules.{rules}
 use Rattle.plan.specs.Plan.{stages, total}
 use Rattle.plan.specs.Stopping.{at_stage, current}
-use Rattle.plan.proofs.Stages.{total_more}
-use Rattle.plan.proofs.FirstStage.{current_none, current_first, current_rest}
 use Rattle.plan.proofs.ways.current.Given as goal
 
 abbrev pub invariant-loop-rest : goal.invariant-loop-rest

@@ -1,5 +1,4 @@
 -- `plan::full` meets its contract: rejection, then acceptance of the stage with its units left bad. Assumes nothing.
-use borrow.Author.Rules.{rules}
 use mathlib.Core.Path.{sym, ◌∙◌}
 use Rattle.plan.specs.Stopping.{full_at}
 use Rattle.plan.proofs.Decide.{decided_reject, decided_accept, decided_on}

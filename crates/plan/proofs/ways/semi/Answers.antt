@@ -1,5 +1,4 @@
 -- `plan::semi` meets its contract: rejection at any unit, else the uncurtailed answer. Assumes nothing.
-use borrow.Author.Rules.{rules}
 use mathlib.Core.Path.{sym, ◌∙◌}
 use Rattle.plan.specs.Stopping.{semi_at}
 use Rattle.plan.proofs.ways.semi.Goals as goal

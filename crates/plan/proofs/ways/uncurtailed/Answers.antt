@@ -1,5 +1,4 @@
 -- `plan::uncurtailed` meets its contract: the answer at the stage's end, and there alone. Assumes nothing.
-use borrow.Author.Rules.{rules}
 use borrow.Author.Tests.{eq-eqb, ne_eqb}
 use mathlib.Core.Path.{sym, ◌∙◌}
 use Rattle.plan.specs.Counts.{units}

@@ -1,6 +1,4 @@
 -- `sheet::free_chain` meets its contract: no free record, a damaged first one, or the walk. Assumes nothing.
-use borrow.Author.Rules.{rules}
-use borrow.Author.Tests.{not-true, not-false}
 use mathlib.Core.Path.{sym, ap, ◌∙◌}
 use Prim.Native.Nat.{ℕ}
 use native.Mathlib.Omega.{arith}

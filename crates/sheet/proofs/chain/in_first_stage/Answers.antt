@@ -1,7 +1,5 @@
 -- `sheet::in_first_stage` meets its contract: as `inspections`, with one test. Assumes nothing.
 use Prim.Native.Nat.{◌≤◌}
-use borrow.Author.Rules.{rules}
-use borrow.Author.Tests.{not-true, not-false}
 use native.Mathlib.Omega.{arith}
 use mathlib.Core.Path.{◌≡◌, sym, ap, ◌∙◌}
 use Rattle.plan.specs.Plan.{stages}

@@ -1,6 +1,5 @@
 -- `sheet::is_free` meets its contract: one test after the other. Assumes nothing.
-use borrow.Author.Rules.{rules}
-use borrow.Author.Tests.{eq-eqb, ne_eqb, not-true, not-false}
+use borrow.Author.Tests.{eq-eqb, ne_eqb}
 use mathlib.Core.Path.{ap, sym, ◌∙◌}
 use Rattle.sheet.proofs.Used.{record_within, value, link, tag}
 use Rattle.sheet.proofs.chain.is_free.Goals as goal

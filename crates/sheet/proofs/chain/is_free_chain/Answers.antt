@@ -1,9 +1,5 @@
-use mathlib.Core.Path.{◌≡◌, sym, ◌∙◌}
+use mathlib.Core.Path.{sym, ◌∙◌}
 use native.Mathlib.Omega.{arith}
-use borrow.Author.Rules.{rules}
-use borrow.Author.Tests.{not-true, not-false}
-use Rattle.sheetmodel.specs.Read.{read_free}
-use Rattle.sheetmodel.specs.Rows.{is_some}
 use Rattle.sheet.proofs.Used.{free_within}
 use Rattle.sheet.proofs.FreeSteps.{ended, not_free, next_free}
 use Rattle.sheet.proofs.chain.is_free_chain.Goals as goal

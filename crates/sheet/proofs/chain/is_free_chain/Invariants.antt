@@ -1,12 +1,7 @@
 -- `sheet::is_free_chain` meets its contract. The loop's invariant: the records from `next` on decide. Assumes nothing.
-use mathlib.Core.Path.{◌≡◌, sym, ◌∙◌}
-use native.Mathlib.Omega.{arith}
-use borrow.Author.Rules.{rules}
-use borrow.Author.Tests.{not-true, not-false}
+use mathlib.Core.Path.{◌≡◌}
 use Rattle.sheetmodel.specs.Read.{read_free}
 use Rattle.sheetmodel.specs.Rows.{is_some}
-use Rattle.sheet.proofs.Used.{free_within}
-use Rattle.sheet.proofs.FreeSteps.{ended, not_free, next_free}
 use Rattle.sheet.proofs.chain.is_free_chain.Given as goal
 
 abbrev pub invariant-loop-left : goal.invariant-loop-left

@@ -1,5 +1,4 @@
 -- `sheet::is_used` meets its contract: the two bounds. Assumes nothing.
-use borrow.Author.Rules.{rules}
 use borrow.Author.Tests.{le-leb, lt-leb}
 use Rattle.sheet.proofs.chain.is_used.Goals as goal
 

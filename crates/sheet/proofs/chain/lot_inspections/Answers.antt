@@ -1,6 +1,4 @@
 -- `sheet::lot_inspections` meets its contract: no inspection, a damaged newest one, more than a lot can have, or the walk. Assumes nothing.
-use borrow.Author.Rules.{rules}
-use borrow.Author.Tests.{not-true, not-false}
 use mathlib.Core.Path.{sym, ap, ◌∙◌}
 use native.Mathlib.Omega.{arith}
 use Prim.Native.Nat.{ℕ}

@@ -1,11 +1,8 @@
 use Prim.Native.Nat.{◌+◌, ◌-◌, ◌/◌, ◌≤◌}
 use mathlib.Core.Path.{◌≡◌, refl, sym, ap, ◌∙◌}
 use native.Mathlib.Omega.{arith}
-use borrow.Author.Rules.{rules}
-use borrow.Author.Tests.{not-true, not-false}
-use Rattle.plan.specs.Counts.{no_units}
 use Rattle.plan.specs.Sample.{highest_class}
-use Rattle.sheet.specs.Survey.{SumsFit, by_sums, newer_part}
+use Rattle.sheet.specs.Survey.{SumsFit}
 use Rattle.sheet.proofs.Used.{value, inspection_within, inspection_class}
 use Rattle.sheet.proofs.ChainSteps.{one_blank_is, sums_fit, one_sum_more, good_left, newer_cut, newer_more, newer_done}
 use Rattle.sheet.proofs.chain.newer_part.Goals as goal

@@ -1,9 +1,7 @@
 -- `sheet::whole_chain` meets its contract: no inspection is left, and before the first unit every lot is undecided. Assumes nothing.
-use borrow.Author.Rules.{rules}
-use mathlib.Core.Path.{◌≡◌, refl, sym, ap, ◌∙◌}
+use mathlib.Core.Path.{◌≡◌, refl, sym, ◌∙◌}
 use Rattle.plan.specs.Plan.{stages}
 use Rattle.plan.proofs.Promise.{promise}
-use Rattle.sheet.specs.declared.chain.Part.{Part}
 use Rattle.sheet.specs.declared.chain.Part.TheVariants as part
 use Rattle.sheetmodel.specs.Read.{read_inspections}
 use Rattle.sheet.specs.Survey.{tested, chain_of, with_older}

@@ -3,7 +3,6 @@ use Prim.Native.Nat.{ℕ}
 use mathlib.Core.Path.{◌≡◌, refl, sym, ap, ◌∙◌}
 use mathlib.Core.Bool.{false}
 use mathlib.Core.List.{List}
-use borrow.Author.Rules.{rules}
 use Rattle.plan.specs.Plan.{stages}
 use Rattle.plan.specs.Stopping.{earliest}
 use Rattle.sheetmodel.specs.Layout.{plan_words}

@@ -1,6 +1,5 @@
 -- `sheet::evidence` meets its contract. Assumes nothing.
 use mathlib.Core.Path.{refl, sym, ◌∙◌}
-use borrow.Author.Rules.{rules}
 use borrow.Author.Tests.{eq-eqb, ne_eqb}
 use Rattle.plan.specs.Counts.{units}
 use Rattle.sheet.proofs.estimating.evidence.Goals as goal

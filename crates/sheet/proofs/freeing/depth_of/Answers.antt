@@ -1,5 +1,4 @@
 -- `sheet::depth_of` meets its contract. Assumes nothing.
-use borrow.Author.Rules.{rules}
 use borrow.Author.Tests.{eq-eqb, ne_eqb}
 use Rattle.sheetmodel.specs.Layout.{word}
 use Rattle.sheetmodel.specs.Read.{depth}

@@ -1,9 +1,7 @@
-use mathlib.Core.Path.{◌≡◌, refl, ◌∙◌}
+use mathlib.Core.Path.{refl, ◌∙◌}
 use native.Mathlib.Omega.{arith}
-use lib.ListN.{length}
-use Rattle.sheetmodel.specs.Calls.{free_inspections}
-use Rattle.sheet.specs.Writes.{InWords, chain}
-use Rattle.sheet.proofs.FreedChain.{Left, left_start, left_in, left_step, left_done}
+use Rattle.sheet.specs.Writes.{InWords}
+use Rattle.sheet.proofs.FreedChain.{left_start, left_in, left_step, left_done}
 use Rattle.sheet.proofs.freeing.free_inspections.Goals as goal
 
 pub loop-left-init : goal.loop-left-init
@@ -27,11 +25,10 @@ pub loop-left-smaller : goal.loop-left-smaller
 loop-left-smaller c = omega arith
 
 pub loop-left-preserved : goal.loop-left-preserved
-loop-left-preserved c =
-    (
-      rw (c.free_record.ensures, c.field_of-older.ensures) (left_step c.loop-left.invariant.0 c.loop-left-test.true),
-      c.free_record.auto.sheet ∙ c.loop-left.invariant.1,
-    )
+loop-left-preserved c = (
+  rw (c.free_record.ensures, c.field_of-older.ensures) (left_step c.loop-left.invariant.0 c.loop-left-test.true),
+  c.free_record.auto.sheet ∙ c.loop-left.invariant.1,
+)
 
 pub shape_of-sheet : goal.shape_of-sheet
 shape_of-sheet c = c.loop-left.invariant.1

@@ -1,10 +1,9 @@
 -- `sheet::free_inspections` meets its contract. The loop's invariant is what is left to free. Assumes nothing.
-use mathlib.Core.Path.{◌≡◌, refl, ◌∙◌}
-use native.Mathlib.Omega.{arith}
+use mathlib.Core.Path.{◌≡◌}
 use lib.ListN.{length}
 use Rattle.sheetmodel.specs.Calls.{free_inspections}
-use Rattle.sheet.specs.Writes.{InWords, chain}
-use Rattle.sheet.proofs.FreedChain.{Left, left_start, left_in, left_step, left_done}
+use Rattle.sheet.specs.Writes.{chain}
+use Rattle.sheet.proofs.FreedChain.{Left}
 use Rattle.sheet.proofs.freeing.free_inspections.Given as goal
 
 abbrev pub invariant-loop-left : goal.invariant-loop-left

@@ -1,5 +1,4 @@
 -- `sheet::free_record` meets its contract. Assumes nothing.
-use borrow.Author.Rules.{rules}
 use Rattle.sheetmodel.specs.Calls.{free_record}
 use Rattle.sheet.proofs.freeing.free_record.Goals as goal
 

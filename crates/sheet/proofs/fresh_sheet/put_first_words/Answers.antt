@@ -1,6 +1,5 @@
 -- `sheet::put_first_words` meets its contract. Assumes nothing.
 use native.Mathlib.Omega.{arith}
-use borrow.Author.Rules.{rules}
 use lib.ListN.{length-set}
 use Rattle.sheet.proofs.fresh_sheet.put_first_words.Goals as goal
 

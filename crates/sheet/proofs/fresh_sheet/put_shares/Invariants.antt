@@ -1,11 +1,9 @@
 -- `sheet::put_shares` meets its contract. The loop's invariant is how many shares are written. Assumes nothing.
-use Prim.Native.Nat.{ℕ, suc, ◌+◌, ◌-◌, ◌≤◌}
-use mathlib.Core.Path.{◌≡◌, refl, ap, ◌∙◌}
-use mathlib.Core.List.{List}
-use native.Mathlib.Omega.{arith}
-use lib.ListN.{length, set, length-set}
-use lib.Seq.{paste, paste-zero, paste-suc}
-use Rattle.sheetmodel.specs.Layout.{shares_start, offices, word}
+use Prim.Native.Nat.{◌-◌, ◌≤◌}
+use mathlib.Core.Path.{◌≡◌}
+use lib.ListN.{length}
+use lib.Seq.{paste}
+use Rattle.sheetmodel.specs.Layout.{shares_start, offices}
 use Rattle.sheet.proofs.fresh_sheet.put_shares.Given as goal
 
 abbrev pub invariant-loop-o : goal.invariant-loop-o

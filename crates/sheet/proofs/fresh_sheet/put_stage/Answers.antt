@@ -1,7 +1,6 @@
 -- `sheet::put_stage` meets its contract: what five stores leave. Assumes nothing.
 use Prim.Native.Nat.{◌+◌}
 use native.Mathlib.Omega.{arith}
-use borrow.Author.Rules.{rules}
 use lib.ListN.{length-set}
 use Rattle.sheetmodel.specs.Layout.{plan_start}
 use Rattle.sheet.proofs.HeaderWords.{five_stored}

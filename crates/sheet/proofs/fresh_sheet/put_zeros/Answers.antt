@@ -1,7 +1,6 @@
-use Prim.Native.Nat.{◌-◌, ◌≤◌}
 use mathlib.Core.Path.{◌≡◌, refl, ap, ◌∙◌}
 use native.Mathlib.Omega.{arith}
-use lib.ListN.{length, length-set}
+use lib.ListN.{length-set}
 use lib.Seq.{paste-zero}
 use Rattle.sheetmodel.specs.Layout.{plan_start, shares_start}
 use Rattle.sheet.proofs.HeaderWords.{zeros, zeros_to, one_zero}
@@ -12,8 +11,7 @@ loop-i-init c = (omega arith, omega arith, refl, paste-zero c.args.sheet.now pla
 
 pub loop-i-preserved : goal.loop-i-preserved
 loop-i-preserved c =
-    let l = c.loop-i in
-    (
+    let l = c.loop-i in (
       omega arith,
       omega arith,
       length-set l.sheet l.i 0 ∙ l.invariant.2,

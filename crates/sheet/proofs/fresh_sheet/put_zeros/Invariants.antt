@@ -1,11 +1,9 @@
 -- `sheet::put_zeros` meets its contract. The loop's invariant is how many zeros are written. Assumes nothing.
 use Prim.Native.Nat.{◌-◌, ◌≤◌}
-use mathlib.Core.Path.{◌≡◌, refl, ap, ◌∙◌}
-use native.Mathlib.Omega.{arith}
-use lib.ListN.{length, length-set}
-use lib.Seq.{paste-zero}
+use mathlib.Core.Path.{◌≡◌}
+use lib.ListN.{length}
 use Rattle.sheetmodel.specs.Layout.{plan_start, shares_start}
-use Rattle.sheet.proofs.HeaderWords.{zeros, zeros_to, one_zero}
+use Rattle.sheet.proofs.HeaderWords.{zeros_to}
 use Rattle.sheet.proofs.fresh_sheet.put_zeros.Given as goal
 
 abbrev pub invariant-loop-i : goal.invariant-loop-i

@@ -2,7 +2,6 @@
 use mathlib.Core.Path.{◌≡◌, refl, sym, ◌∙◌}
 use mathlib.Core.Bool.{false}
 use mathlib.Core.Logic.{inl, inr}
-use borrow.Author.Rules.{rules}
 use Rattle.sheetmodel.specs.Rows.{record_rows}
 use Rattle.sheetmodel.specs.Calls.{full, held_back}
 use Rattle.sheet.proofs.GrantFacts.{denying, giving}

@@ -1,6 +1,5 @@
 -- `sheet::is_full` meets its contract. Assumes nothing.
 use native.Mathlib.Omega.{arith}
-use borrow.Author.Rules.{rules}
 use borrow.Author.Tests.{eq-eqb, ne_eqb}
 use Rattle.sheetmodel.specs.Layout.{word, first_free, next_unused}
 use Rattle.sheetmodel.specs.Calls.{full}

@@ -1,6 +1,5 @@
 -- `sheet::new_record` meets its contract. Assumes nothing.
 use mathlib.Core.Path.{sym}
-use borrow.Author.Rules.{rules}
 use Rattle.sheet.proofs.NewRecord.{new_is_free, new_is_unused}
 use Rattle.sheet.proofs.granting.new_record.Goals as goal
 

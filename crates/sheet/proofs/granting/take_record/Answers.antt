@@ -1,6 +1,5 @@
 -- `sheet::take_record` meets its contract. Assumes nothing.
 use native.Mathlib.Omega.{arith}
-use borrow.Author.Rules.{rules}
 use borrow.Author.Tests.{eq-eqb, ne_eqb}
 use Rattle.sheetmodel.specs.Layout.{word}
 use Rattle.sheetmodel.specs.Calls.{take_record}

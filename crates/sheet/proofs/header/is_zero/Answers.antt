@@ -1,5 +1,4 @@
 -- `sheet::is_zero` meets its contract. Assumes nothing.
-use borrow.Author.Rules.{rules}
 use Rattle.sheet.proofs.WordSums.{zero_sum}
 use Rattle.sheet.proofs.header.is_zero.Goals as goal
 

@@ -1,5 +1,4 @@
 -- `sheet::plan_of` meets its contract: the plan is a part of the sheet. Assumes nothing.
-use borrow.Author.Rules.{rules}
 use Rattle.sheet.proofs.HeaderSteps.{plan_part}
 use Rattle.sheet.proofs.header.plan_of.Goals as goal
 

@@ -1,5 +1,4 @@
 -- `sheet::totals_ok` meets its contract: the sums fit in 64 bits. Assumes nothing.
-use borrow.Author.Rules.{rules}
 use native.Mathlib.Omega.{arith}
 use borrow.Author.Tests.{le-leb, lt-leb}
 use Rattle.sheetmodel.specs.Layout.{accepted_lots, rejected_lots}

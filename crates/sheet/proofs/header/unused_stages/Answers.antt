@@ -1,5 +1,4 @@
 -- `sheet::unused_stages` meets its contract: the words after the plan, to the totals. Assumes nothing.
-use borrow.Author.Rules.{rules}
 use Rattle.sheet.proofs.HeaderSteps.{unused_part}
 use Rattle.sheet.proofs.header.unused_stages.Goals as goal
 

@@ -1,8 +1,6 @@
 -- `sheet::locate_and_count` meets its contract: the size, the shares, then the survey. Assumes nothing.
 use mathlib.Core.Path.{◌≡◌, sym, ◌∙◌}
 use mathlib.Core.Bool.{true}
-use borrow.Author.Rules.{rules}
-use borrow.Author.Tests.{not-true, not-false}
 use Rattle.sheetmodel.specs.Layout.{size_ok, share}
 use Rattle.sheetmodel.specs.Offices.{shares_fit}
 use Rattle.sheet.proofs.Sizes.{long_enough, short_enough}

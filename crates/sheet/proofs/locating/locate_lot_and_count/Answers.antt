@@ -1,6 +1,5 @@
 -- `sheet::locate_lot_and_count` meets its contract: no lot is in record 0. Assumes nothing.
 use mathlib.Core.Path.{sym, ◌∙◌}
-use borrow.Author.Rules.{rules}
 use Rattle.sheet.proofs.LocatedFacts.{still_refused, whole, not_there, there}
 use Rattle.sheet.proofs.locating.locate_lot_and_count.Goals as goal
 

@@ -2,7 +2,6 @@
 use Prim.Native.Nat.{ℕ}
 use mathlib.Core.Path.{refl, sym, ◌∙◌}
 use mathlib.Core.List.{List}
-use borrow.Author.Rules.{rules}
 use Rattle.sheet.specs.declared.survey.Found.{Found}
 use Rattle.sheet.proofs.LocatedFacts.{WithLot, with_lot}
 use Rattle.sheet.proofs.CallSteps.{answer_requires, few, look_refused, look_shown}

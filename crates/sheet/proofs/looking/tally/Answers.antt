@@ -1,7 +1,6 @@
 -- `sheet::tally` meets its contract: the totals are words of the header. Assumes nothing.
 use mathlib.Core.Path.{refl, sym, ◌∙◌}
 use native.Mathlib.Omega.{arith}
-use borrow.Author.Rules.{rules}
 use Rattle.sheet.proofs.Sizes.{long_enough}
 use Rattle.sheet.proofs.LocatedFacts.{Whole, whole}
 use Rattle.sheet.proofs.CallSteps.{tally_refused, tally_shown}

@@ -1,9 +1,7 @@
-use Prim.Native.Nat.{◌+◌, ◌-◌, ◌*◌, ◌≤◌}
+use Prim.Native.Nat.{◌+◌, ◌-◌, ◌≤◌}
 use mathlib.Core.Path.{◌≡◌}
 use native.Mathlib.Omega.{arith}
-use borrow.Author.Rules.{rules}
 use Rattle.sheetmodel.specs.Layout.{largest, word, shares_start, offices, share}
-use Rattle.sheetmodel.specs.Offices.{added_up}
 use Rattle.sheet.proofs.WordSums.{one_more, no_words}
 use Rattle.sheet.proofs.offices.all_lacking.Goals as goal
 

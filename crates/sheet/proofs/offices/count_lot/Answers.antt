@@ -1,6 +1,5 @@
 -- `sheet::count_lot` meets its contract. Assumes nothing.
 use native.Mathlib.Omega.{arith}
-use borrow.Author.Rules.{rules}
 use Rattle.sheet.proofs.offices.count_lot.Goals as goal
 
 pub overflow_add-held-2 : goal.overflow_add-held-2

@@ -1,5 +1,4 @@
 -- `sheet::has_records` meets its contract. Assumes nothing.
-use borrow.Author.Rules.{rules}
 use Rattle.sheet.proofs.offices.has_records.Goals as goal
 
 pub returns : goal.returns

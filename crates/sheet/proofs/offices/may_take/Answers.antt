@@ -1,7 +1,6 @@
 -- `sheet::may_take` meets its contract: the rule, by what was counted. Assumes nothing.
 use mathlib.Core.Path.{sym}
 use native.Mathlib.Omega.{arith}
-use borrow.Author.Rules.{rules}
 use Rattle.sheetmodel.proofs.ForSheet.{an_office}
 use Rattle.sheet.proofs.OfficeSteps.{sized_its, below_share, by_spare}
 use Rattle.sheet.proofs.offices.may_take.Goals as goal

@@ -2,7 +2,6 @@
 use mathlib.Core.Path.{◌∙◌}
 use native.Mathlib.Omega.{arith}
 use lib.ListN.{drop, length-take, length-drop}
-use borrow.Author.Rules.{rules}
 use Rattle.sheetmodel.specs.Layout.{shares_start, offices}
 use Rattle.sheetmodel.specs.Offices.{shares_fit}
 use Rattle.sheet.proofs.WordSums.{part_sum}

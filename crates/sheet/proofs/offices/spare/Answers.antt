@@ -1,6 +1,5 @@
 -- `sheet::spare` meets its contract. Assumes nothing.
 use native.Mathlib.Omega.{arith}
-use borrow.Author.Rules.{rules}
 use Rattle.sheetmodel.specs.Layout.{next_unused}
 use Rattle.sheet.proofs.OfficeSteps.{sized_its, can_free, depth_is}
 use Rattle.sheet.proofs.offices.spare.Goals as goal

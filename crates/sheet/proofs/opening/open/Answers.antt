@@ -2,7 +2,6 @@
 use Prim.Native.Nat.{ℕ}
 use mathlib.Core.Path.{refl, sym, ◌∙◌}
 use mathlib.Core.List.{List}
-use borrow.Author.Rules.{rules}
 use Rattle.sheet.specs.declared.survey.Found.{Found}
 use Rattle.sheet.proofs.LocatedFacts.{Whole, whole, whole_sheet}
 use Rattle.sheet.proofs.CallSteps.{open_refused, open_zero, open_there, open_denied, open_requires, open_granted}

@@ -1,5 +1,4 @@
 -- `sheet::put_record` meets its contract: its four words, one after the other. Assumes nothing.
-use borrow.Author.Rules.{rules}
 use Rattle.sheetmodel.specs.Layout.{put_record}
 use Rattle.sheet.proofs.record.put_record.Goals as goal
 

@@ -1,5 +1,4 @@
 -- `sheet::record_at` meets its contract: its four words. Assumes nothing.
-use borrow.Author.Rules.{rules}
 use Rattle.sheet.proofs.record.record_at.Goals as goal
 
 pub returns : goal.returns

@@ -2,7 +2,6 @@
 use Prim.Native.Nat.{ℕ}
 use mathlib.Core.Path.{refl, sym, ◌∙◌}
 use mathlib.Core.List.{List}
-use borrow.Author.Rules.{rules}
 use Rattle.sheet.specs.declared.survey.Found.{Found}
 use Rattle.sheet.proofs.LocatedFacts.{WithLot, with_lot}
 use Rattle.sheet.proofs.CallSteps.{few, strike_refused, strike_none, strike_requires, strike_granted}

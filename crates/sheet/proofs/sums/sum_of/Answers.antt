@@ -1,9 +1,8 @@
-use Prim.Native.Nat.{ℕ, ◌-◌, ◌*◌, ◌≤◌}
+use Prim.Native.Nat.{ℕ}
 use mathlib.Core.Path.{◌≡◌, ap, ◌∙◌}
 use native.Mathlib.Omega.{arith}
 use lib.ListN.{length}
-use borrow.Author.Rules.{rules}
-use Rattle.sheetmodel.specs.Layout.{largest, word}
+use Rattle.sheetmodel.specs.Layout.{word}
 use Rattle.sheetmodel.specs.Offices.{added_up}
 use Rattle.sheet.proofs.WordSums.{one_more, no_words}
 use Rattle.sheet.proofs.sums.sum_of.Goals as goal

@@ -1,12 +1,9 @@
 -- `sheet::sum_of` meets its contract. The loop's invariant: the sum of the words so far. Assumes nothing.
-use Prim.Native.Nat.{ℕ, ◌-◌, ◌*◌, ◌≤◌}
-use mathlib.Core.Path.{◌≡◌, ap, ◌∙◌}
-use native.Mathlib.Omega.{arith}
+use Prim.Native.Nat.{◌-◌, ◌*◌, ◌≤◌}
+use mathlib.Core.Path.{◌≡◌}
 use lib.ListN.{length}
-use borrow.Author.Rules.{rules}
 use Rattle.sheetmodel.specs.Layout.{largest, word}
 use Rattle.sheetmodel.specs.Offices.{added_up}
-use Rattle.sheet.proofs.WordSums.{one_more, no_words}
 use Rattle.sheet.proofs.sums.sum_of.Given as goal
 
 abbrev pub invariant-loop-i : goal.invariant-loop-i

@@ -1,5 +1,4 @@
 -- `sheet::count_ok` meets its contract: the sums fit in 64 bits. Assumes nothing.
-use borrow.Author.Rules.{rules}
 use native.Mathlib.Omega.{arith}
 use Rattle.sheet.proofs.survey.count_ok.Goals as goal
 

@@ -1,6 +1,5 @@
 -- `sheet::is_lot` meets its contract: one test after the other. Assumes nothing.
-use borrow.Author.Rules.{rules}
-use borrow.Author.Tests.{lt-ltb, le-ltb, not-true, not-false}
+use borrow.Author.Tests.{lt-ltb, le-ltb}
 use mathlib.Core.Path.{ap, sym, ◌∙◌}
 use Rattle.sheet.proofs.Used.{record_within, value, tag}
 use Rattle.sheet.proofs.survey.is_lot.Goals as goal

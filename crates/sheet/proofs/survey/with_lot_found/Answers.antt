@@ -1,5 +1,4 @@
 -- `sheet::with_lot_found` meets its contract: the lot lies before the number that is sought, or has it, or lies after it. Assumes nothing.
-use borrow.Author.Rules.{rules}
 use native.Mathlib.Omega.{arith}
 use borrow.Author.Tests.{lt-ltb, le-ltb, eq-eqb, ne_eqb}
 use Rattle.sheet.proofs.survey.with_lot_found.Goals as goal

@@ -1,6 +1,5 @@
 -- `sheet::add_to` meets its contract. Assumes nothing.
 use mathlib.Core.Path.{refl}
-use borrow.Author.Rules.{rules}
 use Rattle.sheetmodel.specs.Calls.{add_to}
 use Rattle.sheet.proofs.totals.add_to.Goals as goal
 

@@ -3,7 +3,6 @@
 use Prim.Native.Nat.{ℕ, ◌≤◌}
 use mathlib.Core.Path.{◌≡◌}
 use native.Mathlib.Omega.{arith}
-use borrow.Author.Rules.{rules}
 use Rattle.sheetmodel.specs.Layout.{word, rejected_lots, good_units, marginal_units, bad_units}
 use Rattle.sheetmodel.specs.Calls.{add_totals}
 use Rattle.sheet.proofs.TotalsKept.{lots_total_in, other_kept}

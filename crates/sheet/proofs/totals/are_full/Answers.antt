@@ -1,5 +1,4 @@
 -- `sheet::are_full` meets its contract: the sum fits in 64 bits. Assumes nothing.
-use borrow.Author.Rules.{rules}
 use native.Mathlib.Omega.{arith}
 use Rattle.sheetmodel.specs.Layout.{accepted_lots, rejected_lots}
 use Rattle.sheet.proofs.totals.are_full.Goals as goal

@@ -1,5 +1,4 @@
 -- `sheet::add_inspection` meets its contract. Assumes nothing.
-use borrow.Author.Rules.{rules}
 use Rattle.sheetmodel.specs.Calls.{with_inspection}
 use Rattle.sheet.proofs.writing.add_inspection.Goals as goal
 

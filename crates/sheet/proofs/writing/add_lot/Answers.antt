@@ -1,5 +1,4 @@
 -- `sheet::add_lot` meets its contract. Assumes nothing.
-use borrow.Author.Rules.{rules}
 use Rattle.sheetmodel.specs.Calls.{with_lot}
 use Rattle.sheet.proofs.writing.add_lot.Goals as goal
 

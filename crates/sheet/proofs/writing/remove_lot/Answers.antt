@@ -1,7 +1,6 @@
 -- `sheet::remove_lot` meets its contract. The lot's inspections are read as before once the totals grew and the link to the lot
 -- is changed. Assumes nothing.
 use mathlib.Core.Path.{◌≡◌, ap}
-use borrow.Author.Rules.{rules}
 use Rattle.sheetmodel.specs.Rows.{is_some}
 use Rattle.sheet.proofs.Unlinked.{unlinked_lot, chain_kept, still_closing, closed_words}
 use Rattle.sheet.proofs.writing.remove_lot.Goals as goal

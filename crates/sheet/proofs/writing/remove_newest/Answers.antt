@@ -1,6 +1,5 @@
 -- `sheet::remove_newest` meets its contract. Assumes nothing.
 use native.Mathlib.Omega.{arith}
-use borrow.Author.Rules.{rules}
 use Rattle.sheetmodel.specs.Calls.{without_newest}
 use Rattle.sheet.proofs.Unlinked.{unlinked_newest}
 use Rattle.sheet.proofs.writing.remove_newest.Goals as goal
