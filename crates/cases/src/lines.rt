@@ -1,5 +1,5 @@
 // The lines of standard input, read block by block.
-use libc::STDIN_FILENO;
+use std::io::Read;
 
 // The place of the next byte in the block and the number of bytes that came, the number of bytes of the
 // line that was read last, and whether the input ended instead.
@@ -63,7 +63,7 @@ fn take_piece(bytes: &[u8], start: usize, count: usize, line: &mut [u8], n: usiz
 }
 
 // Reads a block if all bytes of the one before are taken. A failed read counts as the input's end.
-fn refilled(block: &mut [u8; 65536], at: usize, count: usize) -> Input {
+fn refilled<R: Read>(reader: &mut R, block: &mut [u8; 65536], at: usize, count: usize) -> Input {
     if at < count {
         return Input {
             at: at,
@@ -72,8 +72,7 @@ fn refilled(block: &mut [u8; 65536], at: usize, count: usize) -> Input {
             end: false,
         };
     }
-    let got = libc::read(STDIN_FILENO, block);
-    let n = io::count(got, block);
+    let n = reader.read(block).unwrap_or(0);
     Input {
         at: 0,
         count: n,
@@ -82,15 +81,19 @@ fn refilled(block: &mut [u8; 65536], at: usize, count: usize) -> Input {
     }
 }
 
-// Reads a line into the array. The last line may lack its byte 10. A proved loop has to end, and nothing
-// says that the line does: it counts its turns down, from a number that no run uses up.
-pub fn next_line(block: &mut [u8; 65536], input: Input, line: &mut [u8]) -> Input {
+// Reads a line into the array. The last line may lack its byte 10. Nothing says that the line ends: the
+// turns are counted, up to a number that no run reaches.
+pub fn next_line<R: Read>(
+    reader: &mut R,
+    block: &mut [u8; 65536],
+    input: Input,
+    line: &mut [u8],
+) -> Input {
     let mut at = input.at;
     let mut count = input.count;
     let mut n = 0;
-    let mut turns = u64::MAX;
-    while turns > 0 {
-        let here = refilled(block, at, count);
+    for _ in 0..u64::MAX {
+        let here = refilled(reader, block, at, count);
         count = here.count;
         if here.end {
             return Input {
@@ -106,7 +109,6 @@ pub fn next_line(block: &mut [u8; 65536], input: Input, line: &mut [u8]) -> Inpu
         if p.ended {
             break;
         }
-        turns -= 1;
     }
     Input {
         at: at,

@@ -1,42 +1,39 @@
 // The numbers of an answer, on standard output.
 use judge::{Judgement, Stop};
-use libc::STDOUT_FILENO;
+use std::io;
 
-pub fn text(bytes: &[u8]) {
-    io::write_all(STDOUT_FILENO, bytes);
+pub fn text(rt: &impl Print, bytes: &[u8]) -> io::Result<()> {
+    rt.write_all(bytes)
 }
 
 // A number, and a space after it.
-pub fn number(n: u64) {
-    io::print_decimal(STDOUT_FILENO, n);
-    text(b" ");
+pub fn number(rt: &impl Print, n: u64) -> io::Result<()> {
+    print!(rt; "{n} ")
 }
 
 // The last number of a line.
-pub fn last(n: u64) {
-    io::print_decimal(STDOUT_FILENO, n);
-    text(b"\n");
+pub fn last(rt: &impl Print, n: u64) -> io::Result<()> {
+    println!(rt; "{n}")
 }
 
 // A refusal's number, as a line.
-pub fn refusal(n: u64) {
-    text(b"no ");
-    last(n);
+pub fn refusal(rt: &impl Print, n: u64) -> io::Result<()> {
+    println!(rt; "no {n}")
 }
 
 // A stop's units and state.
-fn stop(s: Stop) {
+fn stop(rt: &impl Print, s: Stop) -> io::Result<()> {
     let c = s.counts;
-    number(c.good as u64 + c.marginal as u64 + c.bad as u64);
+    number(rt, c.good as u64 + c.marginal as u64 + c.bad as u64)?;
     let answer = s.answer;
-    number(plan::state(answer) as u64);
+    number(rt, plan::state(answer) as u64)
 }
 
 // The stops and states of the four ways, and the event, as a line.
-pub fn judgement(j: Judgement) {
-    stop(j.uncurtailed);
-    stop(j.semi);
-    stop(j.full);
-    stop(j.earliest);
-    last(j.event as u64);
+pub fn judgement(rt: &impl Print, j: Judgement) -> io::Result<()> {
+    stop(rt, j.uncurtailed)?;
+    stop(rt, j.semi)?;
+    stop(rt, j.full)?;
+    stop(rt, j.earliest)?;
+    last(rt, j.event as u64)
 }
