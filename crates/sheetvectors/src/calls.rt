@@ -1,6 +1,7 @@
 // The commands that call the library, and those that write words between the calls.
 use crate::{fill, print};
 use sheet::Done;
+use std::io;
 
 // Open, strike or close.
 fn write(kind: u8, words: &mut [u32], lot: u32) -> Done {
@@ -13,63 +14,55 @@ fn write(kind: u8, words: &mut [u32], lot: u32) -> Done {
     sheet::close(words, lot)
 }
 
-fn on_lot(kind: u8, words: &mut [u32], lot: u32) {
+fn on_lot(rt: &impl Print, kind: u8, words: &mut [u32], lot: u32) -> io::Result<()> {
     if kind == b'l' {
-        print::looked(sheet::look(words, lot));
-        print::digest(words);
-        return;
+        print::looked(rt, sheet::look(words, lot))?;
+        return print::digest(rt, words);
     }
     if kind == b'e' {
-        print::estimated(sheet::estimate(words, lot));
-        print::digest(words);
-        return;
+        print::estimated(rt, sheet::estimate(words, lot))?;
+        return print::digest(rt, words);
     }
     if kind == b'o' || kind == b's' || kind == b'c' {
-        print::done(write(kind, words, lot));
-        print::digest(words);
-        return;
+        print::done(rt, write(kind, words, lot))?;
+        return print::digest(rt, words);
     }
-    print::bad_line();
+    print::bad_line(rt)
 }
 
-fn on_two(kind: u8, words: &mut [u32], first: u32, second: u32) {
+fn on_two(rt: &impl Print, kind: u8, words: &mut [u32], first: u32, second: u32) -> io::Result<()> {
     if kind == b'p' {
-        fill::word(words, first, second);
-        return;
+        return fill::word(rt, words, first, second);
     }
     if kind == b'i' {
-        print::done(sheet::inspect(words, first, second));
-        print::digest(words);
-        return;
+        print::done(rt, sheet::inspect(words, first, second))?;
+        return print::digest(rt, words);
     }
-    print::bad_line();
+    print::bad_line(rt)
 }
 
-fn on_five(kind: u8, words: &mut [u32], list: &[u32]) {
+fn on_five(rt: &impl Print, kind: u8, words: &mut [u32], list: &[u32]) -> io::Result<()> {
     if list.len() != 5 {
-        print::bad_line();
-        return;
+        return print::bad_line(rt);
     }
     if kind != b'a' {
-        print::bad_line();
-        return;
+        return print::bad_line(rt);
     }
-    fill::several(words, list[0], list[1], list[2], list[3], list[4]);
+    fill::several(rt, words, list[0], list[1], list[2], list[3], list[4])
 }
 
-fn on_none(kind: u8, words: &[u32]) {
+fn on_none(rt: &impl Print, kind: u8, words: &[u32]) -> io::Result<()> {
     if kind == b't' {
-        print::tallied(sheet::tally(words));
-        print::digest(words);
-        return;
+        print::tallied(rt, sheet::tally(words))?;
+        return print::digest(rt, words);
     }
-    print::bad_line();
+    print::bad_line(rt)
 }
 
 // Fresh, with these shares.
-fn fresh(words: &mut [u32], plan: &[u32], shares: &[u32; 16]) {
-    print::done(sheet::fresh(words, plan, shares));
-    print::digest(words);
+fn fresh(rt: &impl Print, words: &mut [u32], plan: &[u32], shares: &[u32; 16]) -> io::Result<()> {
+    print::done(rt, sheet::fresh(words, plan, shares))?;
+    print::digest(rt, words)
 }
 
 // The first sixteen numbers of a line, 0 for each that it lacks.
@@ -87,20 +80,18 @@ fn first_sixteen(list: &[u32]) -> [u32; 16] {
 }
 
 // A command of this kind, with the numbers of its line.
-pub fn answer(kind: u8, list: &[u32], words: &mut [u32]) {
+pub fn answer(rt: &impl Print, kind: u8, list: &[u32], words: &mut [u32]) -> io::Result<()> {
     if kind == b'f' {
-        fresh(words, list, &[0u32; 16]);
-        return;
+        return fresh(rt, words, list, &[0u32; 16]);
     }
     if kind == b'g' && list.len() >= 16 {
-        fresh(words, &list[16..], &first_sixteen(list));
-        return;
+        return fresh(rt, words, &list[16..], &first_sixteen(list));
     }
     match list.len() {
-        0 => on_none(kind, words),
-        1 => on_lot(kind, words, list[0]),
-        2 => on_two(kind, words, list[0], list[1]),
-        5 => on_five(kind, words, list),
-        _ => print::bad_line(),
+        0 => on_none(rt, kind, words),
+        1 => on_lot(rt, kind, words, list[0]),
+        2 => on_two(rt, kind, words, list[0], list[1]),
+        5 => on_five(rt, kind, words, list),
+        _ => print::bad_line(rt),
     }
 }

@@ -1,5 +1,6 @@
 // Commands that only write words.
 use crate::print;
+use std::io;
 
 // START, and by how much each further word is more, modulo 2^32.
 #[derive(Clone, Copy)]
@@ -30,10 +31,16 @@ fn run(words: &mut [u32], place: usize, stride: usize, count: u32, values: Value
 }
 
 // `n LEN SEED`: a new sheet of LEN words, word i being SEED × (i + 1). The result is its size.
-pub fn new_sheet(words: &mut [u32], size: usize, length: u32, seed: u32) -> usize {
+pub fn new_sheet(
+    rt: &impl Print,
+    words: &mut [u32],
+    size: usize,
+    length: u32,
+    seed: u32,
+) -> io::Result<usize> {
     if words.len() < length as usize {
-        print::bad_line();
-        return size;
+        print::bad_line(rt)?;
+        return Ok(size);
     }
     run(
         words,
@@ -45,12 +52,12 @@ pub fn new_sheet(words: &mut [u32], size: usize, length: u32, seed: u32) -> usiz
             step: seed,
         },
     );
-    print::ok();
-    length as usize
+    print::ok(rt)?;
+    Ok(length as usize)
 }
 
 // `p INDEX WORD`
-pub fn word(words: &mut [u32], index: u32, value: u32) {
+pub fn word(rt: &impl Print, words: &mut [u32], index: u32, value: u32) -> io::Result<()> {
     run(
         words,
         index as usize,
@@ -61,11 +68,19 @@ pub fn word(words: &mut [u32], index: u32, value: u32) {
             step: 0,
         },
     );
-    print::ok();
+    print::ok(rt)
 }
 
 // `a INDEX STRIDE COUNT START STEP`
-pub fn several(words: &mut [u32], index: u32, stride: u32, count: u32, start: u32, step: u32) {
+pub fn several(
+    rt: &impl Print,
+    words: &mut [u32],
+    index: u32,
+    stride: u32,
+    count: u32,
+    start: u32,
+    step: u32,
+) -> io::Result<()> {
     run(
         words,
         index as usize,
@@ -76,5 +91,5 @@ pub fn several(words: &mut [u32], index: u32, stride: u32, count: u32, start: u3
             step: step,
         },
     );
-    print::ok();
+    print::ok(rt)
 }

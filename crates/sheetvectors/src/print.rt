@@ -1,64 +1,65 @@
 // The answers, one line each: a reply, then the digest of all words of the sheet.
 use cases::print::{last, number, text};
 use sheet::{Done, Estimated, Looked, Tallied};
+use std::io;
 
-pub fn bad_line() {
-    text(b"bad line\n");
+pub fn bad_line(rt: &impl Print) -> io::Result<()> {
+    text(rt, b"bad line\n")
 }
 
-pub fn ok() {
-    text(b"ok\n");
+pub fn ok(rt: &impl Print) -> io::Result<()> {
+    text(rt, b"ok\n")
 }
 
-fn refused(value: u32) {
-    text(b"no ");
-    number(value as u64);
+fn refused(rt: &impl Print, value: u32) -> io::Result<()> {
+    text(rt, b"no ")?;
+    number(rt, value as u64)
 }
 
-pub fn done(reply: Done) {
+pub fn done(rt: &impl Print, reply: Done) -> io::Result<()> {
     match reply {
-        Done::Ok => text(b"ok "),
-        Done::Refused(n) => refused(n),
+        Done::Ok => text(rt, b"ok "),
+        Done::Refused(n) => refused(rt, n),
     }
 }
 
-pub fn looked(reply: Looked) {
+pub fn looked(rt: &impl Print, reply: Looked) -> io::Result<()> {
     match reply {
         Looked::Shown(s) => {
             let answer = s.answer;
-            number(plan::state(answer) as u64);
-            number(s.units as u64);
-            number(s.good as u64);
-            number(s.marginal as u64);
-            number(s.bad as u64);
-            number(s.blanks as u64);
+            number(rt, plan::state(answer) as u64)?;
+            number(rt, s.units as u64)?;
+            number(rt, s.good as u64)?;
+            number(rt, s.marginal as u64)?;
+            number(rt, s.bad as u64)?;
+            number(rt, s.blanks as u64)
         }
-        Looked::Refused(n) => refused(n),
+        Looked::Refused(n) => refused(rt, n),
     }
 }
 
-pub fn tallied(reply: Tallied) {
+pub fn tallied(rt: &impl Print, reply: Tallied) -> io::Result<()> {
     match reply {
         Tallied::Totals(t) => {
-            number(t.accepted as u64);
-            number(t.rejected as u64);
-            number(t.good as u64);
-            number(t.marginal as u64);
-            number(t.bad as u64);
+            number(rt, t.accepted as u64)?;
+            number(rt, t.rejected as u64)?;
+            number(rt, t.good as u64)?;
+            number(rt, t.marginal as u64)?;
+            number(rt, t.bad as u64)
         }
-        Tallied::Refused(n) => refused(n),
+        Tallied::Refused(n) => refused(rt, n),
     }
 }
 
-pub fn estimated(reply: Estimated) {
+pub fn estimated(rt: &impl Print, reply: Estimated) -> io::Result<()> {
     match reply {
         Estimated::Estimate(e) => {
-            number(e.good);
-            number(e.marginal);
-            number(e.bad);
-            number(e.over);
+            number(rt, e.good)?;
+            number(rt, e.marginal)?;
+            number(rt, e.bad)?;
+            number(rt, e.over)
         }
-        Estimated::Refused(n) => refused(n),
+        Estimated::Refused(n) => refused(rt, n),
     }
 }
 
@@ -78,6 +79,6 @@ fn digest_of(words: &[u32]) -> u64 {
     h
 }
 
-pub fn digest(words: &[u32]) {
-    last(digest_of(words));
+pub fn digest(rt: &impl Print, words: &[u32]) -> io::Result<()> {
+    last(rt, digest_of(words))
 }
