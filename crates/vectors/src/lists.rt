@@ -2,31 +2,29 @@
 use crate::print::bad_line;
 use cases::print;
 use judge::Judged;
+use std::io;
 
-fn judge_list(plan: &[u32], list: &[u8]) {
+fn judge_list(rt: &impl Print, plan: &[u32], list: &[u8]) -> io::Result<()> {
     match judge::judge(plan, list) {
-        Judged::Stops(judgement) => print::judgement(judgement),
-        Judged::Refused(number) => print::refusal(number as u64),
+        Judged::Stops(judgement) => print::judgement(rt, judgement),
+        Judged::Refused(number) => print::refusal(rt, number as u64),
     }
 }
 
-// `j.CLASSES W1 W2 ..`: the list judged four ways, and the event.
-pub fn judged(text: &[u8]) {
+// `j .CLASSES W1 W2 ..`: the list judged four ways, and the event.
+pub fn judged(rt: &impl Print, text: &[u8]) -> io::Result<()> {
     if text.len() < 3 {
-        bad_line();
-        return;
+        return bad_line(rt);
     }
     if text[1] != b' ' || text[2] != b'.' {
-        bad_line();
-        return;
+        return bad_line(rt);
     }
     let mut classes = [0u8; 4096];
     let count = cases::classes(text, 3, &mut classes);
     let mut list = [0u32; 128];
     let n = cases::words(text, 3 + count, &mut list);
     if n > 128 {
-        bad_line();
-        return;
+        return bad_line(rt);
     }
-    judge_list(&list[0..n], &classes[0..count]);
+    judge_list(rt, &list[0..n], &classes[0..count])
 }

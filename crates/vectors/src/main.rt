@@ -9,47 +9,46 @@ mod print;
 
 use chances::Call;
 use print::bad_line;
+use std::io;
 
-fn answer_case(line: &[u8]) {
+fn answer_case(rt: &impl Print, line: &[u8]) -> io::Result<()> {
     if line.len() == 0 {
-        bad_line();
-        return;
+        return bad_line(rt);
     }
     match line[0] {
-        b'a' => plans::admission(line),
-        b'j' => lists::judged(line),
-        b'c' => chances::answer(line, Call::Chance),
-        b'f' => chances::answer(line, Call::Chart),
-        b'l' => chances::answer(line, Call::Lot),
-        b'u' => chances::answer(line, Call::Units),
-        b'v' => chances::answer(line, Call::UnitsChart),
-        _ => bad_line(),
+        b'a' => plans::admission(rt, line),
+        b'j' => lists::judged(rt, line),
+        b'c' => chances::answer(rt, line, Call::Chance),
+        b'f' => chances::answer(rt, line, Call::Chart),
+        b'l' => chances::answer(rt, line, Call::Lot),
+        b'u' => chances::answer(rt, line, Call::Units),
+        b'v' => chances::answer(rt, line, Call::UnitsChart),
+        _ => bad_line(rt),
     }
 }
 
 // Answers the line in the first n bytes. A full array holds the start of a line that is too long.
-// A part is written with its start, here and in plans, since `..n` would need a proof file.
-fn answer(line: &[u8], n: usize) {
+fn answer(rt: &impl Print, line: &[u8], n: usize) -> io::Result<()> {
     if n < line.len() {
-        answer_case(&line[0..n]);
+        answer_case(rt, &line[0..n])
     } else {
-        bad_line();
+        bad_line(rt)
     }
 }
 
-// A proved loop has to end, and nothing says that the input does. So the loop counts its turns
-// down, from a number that no run uses up.
-fn main() {
+// Nothing says that the input ends: the lines are counted, up to a number that no run reaches. A failed
+// write ends the program.
+fn main(rt: HostRuntime) -> io::Result<()> {
+    let mut stdin = rt.stdin();
     let mut block = [0u8; 65536];
     let mut line = [0u8; 4096];
     let mut input = cases::start();
-    let mut turns = u64::MAX;
-    while turns > 0 {
-        input = cases::next_line(&mut block, input, &mut line);
+    for _ in 0..u64::MAX {
+        input = cases::next_line(&mut stdin, &mut block, input, &mut line);
         if input.end {
-            return;
+            break;
         }
-        answer(&line, input.line);
-        turns -= 1;
+        answer(&rt, &line, input.line)?;
     }
+    Ok(())
 }

@@ -1,18 +1,18 @@
 // Cases on a plan alone.
 use crate::print::bad_line;
 use cases::print;
+use std::io;
 
 // `a W1 W2 ..`: is the plan admitted?
-pub fn admission(text: &[u8]) {
+pub fn admission(rt: &impl Print, text: &[u8]) -> io::Result<()> {
     let mut list = [0u32; 128];
     let n = cases::words(text, 1, &mut list);
     if n > 128 {
-        bad_line();
-        return;
+        return bad_line(rt);
     }
     if plan::admitted(&list[0..n]) {
-        print::text(b"admitted\n");
+        print::text(rt, b"admitted\n")
     } else {
-        print::refusal(2);
+        print::refusal(rt, 2)
     }
 }
