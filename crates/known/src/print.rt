@@ -3,19 +3,20 @@ pub use cases::print::judgement;
 use cases::print::{last, number};
 use chance::Bounds;
 use sheet::Estimate;
+use std::io;
 
-pub fn estimate(e: Estimate) {
-    number(e.good);
-    number(e.marginal);
-    number(e.bad);
-    last(e.over);
+pub fn estimate(rt: &impl Print, e: Estimate) -> io::Result<()> {
+    number(rt, e.good)?;
+    number(rt, e.marginal)?;
+    number(rt, e.bad)?;
+    last(rt, e.over)
 }
 
-pub fn bounds(b: Bounds) {
-    number(b.low);
-    last(b.high);
+pub fn bounds(rt: &impl Print, b: Bounds) -> io::Result<()> {
+    number(rt, b.low)?;
+    last(rt, b.high)
 }
 
-pub fn refusal(n: u32) {
-    cases::print::refusal(n as u64);
+pub fn refusal(rt: &impl Print, n: u32) -> io::Result<()> {
+    cases::print::refusal(rt, n as u64)
 }
