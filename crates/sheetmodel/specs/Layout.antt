@@ -99,7 +99,7 @@ closed_units w = (totals w).good + (totals w).marginal + (totals w).bad
 -- ---- records. Their words are
 --   lot:         number, next lot, newest inspection, 0
 --   inspection:  class, next older, its lot's record, serial
---   free:        depth, next free, 0, free-tag
+--   free:        depth, next free, 0, free_tag
 -- The header is record 0: its word 1, the first lot, is the next lot of record 0.
 
 -- whole records

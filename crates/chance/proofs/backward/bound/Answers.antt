@@ -1,3 +1,4 @@
+-- The answers for `chance::bound`; Invariants.antt says what its loop or recursion goes by. Assumes nothing.
 use Prim.Native.Nat.{◌+◌, ◌-◌}
 use mathlib.Core.Path.{◌≡◌, subst, ◌∙◌}
 use mathlib.Core.Logic.{inr}

@@ -1,3 +1,4 @@
+-- The answers for `chance::scale_of`; Invariants.antt says what its loop or recursion goes by. Assumes nothing.
 use native.Mathlib.Nat.{mul-one, mul_assoc, mul-le-mul_right}
 use native.Mathlib.Omega.{arith}
 use Rattle.chance.proofs.division.scale_of.Goals as goal

@@ -1,9 +1,10 @@
-use Prim.Native.Nat.{ℕ, ◌+◌, ◌<◌}
+-- The answers for `chance::constant_rows`; Invariants.antt says what its loop or recursion goes by. Assumes nothing.
+use Prim.Native.Nat.{ℕ, ◌<◌}
 use mathlib.Core.Path.{◌≡◌, subst}
 use native.Mathlib.Omega.{arith}
 use Rattle.plan.proofs.Promise.{shape}
 use Rattle.chance.specs.Layer.{step_value, SteppedRows}
-use Rattle.chance.proofs.InPlace.{ready_partly, rows_valued, rows_partly, RowsTo, rows_begin, plan_row, plan_open}
+use Rattle.chance.proofs.InPlace.{ready_partly, rows_valued, rows_partly, rows_begin, plan_row, plan_open}
 use Rattle.chance.proofs.layer.constant_rows.Goals as goal
 
 pub constant_of-t-requires : goal.constant_of-t-requires
@@ -40,12 +41,12 @@ next_limit-limit-requires c =
 
 pub open_rows-g-requires : goal.open_rows-g-requires
 open_rows-g-requires c =
-    let stepped : let a = c.args in RowsTo a.plan.now a.s a.y a.rows a.layer.now c.constant_row.new.layer c.next_limit-limit.result (c.loop-g.g + 1) = let row = c.constant_row in
-    plan_row c.requires.ready c.requires.limited c.loop-g.invariant c.loop-g-test.true row.ensures row.auto.layer c.next_limit-limit.ensures in
+    let row = c.constant_row in
+    let p = plan_row c.requires.ready c.requires.limited c.loop-g.invariant c.loop-g-test.true row.ensures row.auto.layer c.next_limit-limit.ensures in
     let pre = c.requires in
     let limited = pre.limited in
     let suits = pre.ready.suits in
-    let p = stepped in record {
+    record {
       partly = rows_partly (ready_partly pre.ready) p.stepped p.same (omega arith);
       constant_for = c.constant_of-t.ensures;
       rows_bound = (limited.reached, limited.inside, omega (arith, suits.reject1, (shape c.args.plan.now suits.admitted).reject1_from));
@@ -53,11 +54,10 @@ open_rows-g-requires c =
 
 pub loop-g-preserved-then-limit-eq0 : goal.loop-g-preserved-then-limit-eq0
 loop-g-preserved-then-limit-eq0 c =
-    let stepped : let a = c.args in RowsTo a.plan.now a.s a.y a.rows a.layer.now c.constant_row.new.layer c.next_limit-limit.result (c.loop-g.g + 1) = let row = c.constant_row in
-    plan_row c.requires.ready c.requires.limited c.loop-g.invariant c.loop-g-test.true row.ensures row.auto.layer c.next_limit-limit.ensures in
+    let row = c.constant_row in
+    let p = plan_row c.requires.ready c.requires.limited c.loop-g.invariant c.loop-g-test.true row.ensures row.auto.layer c.next_limit-limit.ensures in
     let rows = c.open_rows-g in
     let pre = c.requires in
-    let p = stepped in
     plan_open pre.ready pre.limited p c.if-limit-eq0.true (omega (arith, rows.ensures.value)) (omega (arith, rows.ensures.value, p.upto)) rows.ensures.stepped_rows rows.auto.layer
 
 pub returns : goal.returns
@@ -87,9 +87,8 @@ loop-g-smaller c = omega (arith, c.loop-g-test.true)
 
 pub loop-g-preserved : goal.loop-g-preserved
 loop-g-preserved c =
-    let stepped : let a = c.args in RowsTo a.plan.now a.s a.y a.rows a.layer.now c.constant_row.new.layer c.next_limit-limit.result (c.loop-g.g + 1) = let row = c.constant_row in
-    plan_row c.requires.ready c.requires.limited c.loop-g.invariant c.loop-g-test.true row.ensures row.auto.layer c.next_limit-limit.ensures in
-    stepped
+    let row = c.constant_row in
+    plan_row c.requires.ready c.requires.limited c.loop-g.invariant c.loop-g-test.true row.ensures row.auto.layer c.next_limit-limit.ensures
 
 pub shape_of-layer : goal.shape_of-layer
 shape_of-layer c = c.loop-g.invariant.same

@@ -1,3 +1,4 @@
+-- The answers for `chance::open_rows`; Invariants.antt says what its loop or recursion goes by. Assumes nothing.
 use mathlib.Core.Path.{refl, ◌∙◌}
 use native.Mathlib.Omega.{arith}
 use Rattle.chance.proofs.InPlace.{rows_none, rows_valued, rows_more}

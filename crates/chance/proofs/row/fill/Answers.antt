@@ -1,3 +1,4 @@
+-- The answers for `chance::fill`; Invariants.antt says what its loop or recursion goes by. Assumes nothing.
 use native.Mathlib.Omega.{arith}
 use Rattle.chance.proofs.InRow.{fill_none, fill_more, fill_all}
 use Rattle.chance.proofs.row.fill.Goals as goal

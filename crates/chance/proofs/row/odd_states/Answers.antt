@@ -1,3 +1,4 @@
+-- The answers for `chance::odd_states`; Invariants.antt says what its loop or recursion goes by. Assumes nothing.
 use Prim.Native.Nat.{ℕ, ◌+◌, ◌-◌, ◌≤◌}
 use mathlib.Core.Path.{◌≡◌, subst}
 use native.Mathlib.Omega.{arith}

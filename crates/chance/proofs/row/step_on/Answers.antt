@@ -1,3 +1,4 @@
+-- The answers for `chance::step_on`; Invariants.antt says what its loop or recursion goes by. Assumes nothing.
 use Prim.Native.Nat.{◌+◌, ◌-◌, ◌≤◌}
 use mathlib.Core.Path.{◌≡◌, refl, ◌∙◌}
 use native.Mathlib.Omega.{arith}

@@ -4,7 +4,7 @@ use native.Mathlib.Omega.{arith}
 use mathlib.Core.Path.{◌≡◌, refl, ap, sym, ◌∙◌}
 use mathlib.Core.Option.{Option}
 use mathlib.Core.List.{List}
-use lib.ListN.{length, take}
+use lib.ListN.{take}
 use Rattle.sheetmodel.specs.declared.reply.Done.{Done}
 use Rattle.sheetmodel.specs.declared.reply.Looked.{Looked}
 use Rattle.sheetmodel.specs.declared.reply.Tallied.{Tallied}
@@ -12,9 +12,8 @@ use Rattle.sheetmodel.specs.Offices.{no_shares}
 use Rattle.sheetmodel.specs.Calls as calls
 use Rattle.command.specs.declared.reading.Command.{Command}
 use Rattle.commandmodel.specs.Command as command
-use Rattle.commandmodel.specs.Printed.{in_bytes, refusal, not_a_command, done_printed, look_printed, tally_printed, performed, answered, answer}
+use Rattle.commandmodel.specs.Printed.{refusal, not_a_command, done_printed, look_printed, tally_printed, performed, answered, answer}
 use Rattle.command.specs.Read.{most_numbers, meaning, plan_numbers}
-use Rattle.command.specs.Written.{written, Gives}
 use Rattle.sheetmodel.proofs.Corollaries.{look_words, tally_words}
 use Rattle.command.proofs.Answers.{by_call}
 use Rattle.command.proofs.answering.answer.Goals as goal
@@ -25,97 +24,86 @@ slice_bounds-list-end c =
     let few : c.in-Fresh.n ≤ most_numbers = rw (ap plan_numbers c.in-Fresh.is) at r.ensures.1 in
     omega (arith, r.auto.list)
 
+-- the command x was read: its call is the line's
+read_as : (line words list : List ℕ) (r x : Command) → command.command line ≡ meaning r list → r ≡ x
+    → answered (command.command line) words ≡ answered (meaning x list) words
+read_as line words list r x e q = ap (λ (m : Option command.Command). answered m words) (e ∙ ap (λ (y : Command). meaning y list) q)
+
 pub returns-in-Fresh : goal.returns-in-Fresh
 unfolding performed answer
 returns-in-Fresh c =
-    let line : List ℕ = c.args.line.now in
-    let words : List ℕ = c.args.sheet.now in
-    let out : List ℕ = c.args.out.now in
-    let list : List ℕ = c.read_command.new.list in
-    let call : (x : Command) → c.read_command.result ≡ x → (R : Type 0) (bytes : R → List ℕ) (o : calls.Outcome R) → answered (meaning x list) words ≡ in_bytes bytes o → (d : R) → d ≡ o.reply → (r : ℕ) → r ≡ length (bytes d) → (last : List ℕ) → last ≡ written out 0 (bytes d) → length last ≡ length out → (after : List ℕ) → after ≡ o.words → Gives (answer line words) out r last after = λ x e R bytes o made d told r count last printed same after left. by_call line words R bytes o (ap (λ (m : Option command.Command). answered m words) (c.read_command.ensures.0 ∙ ap (λ (m : Command). meaning m list) e) ∙ made) d told out r count last printed same after left in
+    let w = c.args.sheet.now in
     let made = c.fresh_without_shares in
     let put = c.put_done in
-    call _ c.in-Fresh.is Done done_printed (calls.fresh (take c.in-Fresh.n (list)) no_shares (words)) refl made.result made.ensures.value put.result put.ensures.value put.new.out put.ensures.out_after put.auto.out made.new.sheet made.ensures.sheet_after
+    by_call c.args.line.now w Done done_printed (calls.fresh (take c.in-Fresh.n c.read_command.new.list) no_shares w)
+    (read_as c.args.line.now w c.read_command.new.list _ _ c.read_command.ensures.0 c.in-Fresh.is)
+    made.result made.ensures.value c.args.out.now put.result put.ensures.value put.new.out put.ensures.out_after put.auto.out made.new.sheet made.ensures.sheet_after
 
 pub returns-in-Open : goal.returns-in-Open
 unfolding performed answer
 returns-in-Open c =
-    let line : List ℕ = c.args.line.now in
-    let words : List ℕ = c.args.sheet.now in
-    let out : List ℕ = c.args.out.now in
-    let list : List ℕ = c.read_command.new.list in
-    let call : (x : Command) → c.read_command.result ≡ x → (R : Type 0) (bytes : R → List ℕ) (o : calls.Outcome R) → answered (meaning x list) words ≡ in_bytes bytes o → (d : R) → d ≡ o.reply → (r : ℕ) → r ≡ length (bytes d) → (last : List ℕ) → last ≡ written out 0 (bytes d) → length last ≡ length out → (after : List ℕ) → after ≡ o.words → Gives (answer line words) out r last after = λ x e R bytes o made d told r count last printed same after left. by_call line words R bytes o (ap (λ (m : Option command.Command). answered m words) (c.read_command.ensures.0 ∙ ap (λ (m : Command). meaning m list) e) ∙ made) d told out r count last printed same after left in
+    let w = c.args.sheet.now in
     let made = c.«open» in
     let put = c.put_done-in-Open in
-    call _ c.in-Open.is Done done_printed (calls.open_lot c.in-Open.lot (words)) refl made.result made.ensures.value put.result put.ensures.value put.new.out put.ensures.out_after put.auto.out made.new.sheet made.ensures.sheet_after
+    by_call c.args.line.now w Done done_printed (calls.open_lot c.in-Open.lot w)
+    (read_as c.args.line.now w c.read_command.new.list _ _ c.read_command.ensures.0 c.in-Open.is)
+    made.result made.ensures.value c.args.out.now put.result put.ensures.value put.new.out put.ensures.out_after put.auto.out made.new.sheet made.ensures.sheet_after
 
 pub returns-in-Inspect : goal.returns-in-Inspect
 unfolding performed answer
 returns-in-Inspect c =
-    let line : List ℕ = c.args.line.now in
-    let words : List ℕ = c.args.sheet.now in
-    let out : List ℕ = c.args.out.now in
-    let list : List ℕ = c.read_command.new.list in
-    let call : (x : Command) → c.read_command.result ≡ x → (R : Type 0) (bytes : R → List ℕ) (o : calls.Outcome R) → answered (meaning x list) words ≡ in_bytes bytes o → (d : R) → d ≡ o.reply → (r : ℕ) → r ≡ length (bytes d) → (last : List ℕ) → last ≡ written out 0 (bytes d) → length last ≡ length out → (after : List ℕ) → after ≡ o.words → Gives (answer line words) out r last after = λ x e R bytes o made d told r count last printed same after left. by_call line words R bytes o (ap (λ (m : Option command.Command). answered m words) (c.read_command.ensures.0 ∙ ap (λ (m : Command). meaning m list) e) ∙ made) d told out r count last printed same after left in
+    let w = c.args.sheet.now in
     let made = c.inspect in
     let put = c.put_done-in-Inspect in
-    call _ c.in-Inspect.is Done done_printed (calls.inspect c.in-Inspect.lot c.in-Inspect.class (words)) refl made.result made.ensures.value put.result put.ensures.value put.new.out put.ensures.out_after put.auto.out made.new.sheet made.ensures.sheet_after
+    by_call c.args.line.now w Done done_printed (calls.inspect c.in-Inspect.lot c.in-Inspect.class w)
+    (read_as c.args.line.now w c.read_command.new.list _ _ c.read_command.ensures.0 c.in-Inspect.is)
+    made.result made.ensures.value c.args.out.now put.result put.ensures.value put.new.out put.ensures.out_after put.auto.out made.new.sheet made.ensures.sheet_after
 
 pub returns-in-Strike : goal.returns-in-Strike
 unfolding performed answer
 returns-in-Strike c =
-    let line : List ℕ = c.args.line.now in
-    let words : List ℕ = c.args.sheet.now in
-    let out : List ℕ = c.args.out.now in
-    let list : List ℕ = c.read_command.new.list in
-    let call : (x : Command) → c.read_command.result ≡ x → (R : Type 0) (bytes : R → List ℕ) (o : calls.Outcome R) → answered (meaning x list) words ≡ in_bytes bytes o → (d : R) → d ≡ o.reply → (r : ℕ) → r ≡ length (bytes d) → (last : List ℕ) → last ≡ written out 0 (bytes d) → length last ≡ length out → (after : List ℕ) → after ≡ o.words → Gives (answer line words) out r last after = λ x e R bytes o made d told r count last printed same after left. by_call line words R bytes o (ap (λ (m : Option command.Command). answered m words) (c.read_command.ensures.0 ∙ ap (λ (m : Command). meaning m list) e) ∙ made) d told out r count last printed same after left in
+    let w = c.args.sheet.now in
     let made = c.strike in
     let put = c.put_done-in-Strike in
-    call _ c.in-Strike.is Done done_printed (calls.strike c.in-Strike.lot (words)) refl made.result made.ensures.value put.result put.ensures.value put.new.out put.ensures.out_after put.auto.out made.new.sheet made.ensures.sheet_after
+    by_call c.args.line.now w Done done_printed (calls.strike c.in-Strike.lot w)
+    (read_as c.args.line.now w c.read_command.new.list _ _ c.read_command.ensures.0 c.in-Strike.is)
+    made.result made.ensures.value c.args.out.now put.result put.ensures.value put.new.out put.ensures.out_after put.auto.out made.new.sheet made.ensures.sheet_after
 
 pub returns-in-Look : goal.returns-in-Look
 unfolding performed answer
 returns-in-Look c =
-    let line : List ℕ = c.args.line.now in
-    let words : List ℕ = c.args.sheet.now in
-    let out : List ℕ = c.args.out.now in
-    let list : List ℕ = c.read_command.new.list in
-    let call : (x : Command) → c.read_command.result ≡ x → (R : Type 0) (bytes : R → List ℕ) (o : calls.Outcome R) → answered (meaning x list) words ≡ in_bytes bytes o → (d : R) → d ≡ o.reply → (r : ℕ) → r ≡ length (bytes d) → (last : List ℕ) → last ≡ written out 0 (bytes d) → length last ≡ length out → (after : List ℕ) → after ≡ o.words → Gives (answer line words) out r last after = λ x e R bytes o made d told r count last printed same after left. by_call line words R bytes o (ap (λ (m : Option command.Command). answered m words) (c.read_command.ensures.0 ∙ ap (λ (m : Command). meaning m list) e) ∙ made) d told out r count last printed same after left in
+    let w = c.args.sheet.now in
     let made = c.look in
     let put = c.put_look in
-    call _ c.in-Look.is Looked look_printed (calls.look c.in-Look.lot (words)) refl made.result made.ensures put.result put.ensures.value put.new.out put.ensures.out_after put.auto.out (words) (sym (look_words c.in-Look.lot (words)))
+    by_call c.args.line.now w Looked look_printed (calls.look c.in-Look.lot w)
+    (read_as c.args.line.now w c.read_command.new.list _ _ c.read_command.ensures.0 c.in-Look.is)
+    made.result made.ensures c.args.out.now put.result put.ensures.value put.new.out put.ensures.out_after put.auto.out w (sym (look_words c.in-Look.lot w))
 
 pub returns-in-Close : goal.returns-in-Close
 unfolding performed answer
 returns-in-Close c =
-    let line : List ℕ = c.args.line.now in
-    let words : List ℕ = c.args.sheet.now in
-    let out : List ℕ = c.args.out.now in
-    let list : List ℕ = c.read_command.new.list in
-    let call : (x : Command) → c.read_command.result ≡ x → (R : Type 0) (bytes : R → List ℕ) (o : calls.Outcome R) → answered (meaning x list) words ≡ in_bytes bytes o → (d : R) → d ≡ o.reply → (r : ℕ) → r ≡ length (bytes d) → (last : List ℕ) → last ≡ written out 0 (bytes d) → length last ≡ length out → (after : List ℕ) → after ≡ o.words → Gives (answer line words) out r last after = λ x e R bytes o made d told r count last printed same after left. by_call line words R bytes o (ap (λ (m : Option command.Command). answered m words) (c.read_command.ensures.0 ∙ ap (λ (m : Command). meaning m list) e) ∙ made) d told out r count last printed same after left in
+    let w = c.args.sheet.now in
     let made = c.close in
     let put = c.put_done-in-Close in
-    call _ c.in-Close.is Done done_printed (calls.close c.in-Close.lot (words)) refl made.result made.ensures.value put.result put.ensures.value put.new.out put.ensures.out_after put.auto.out made.new.sheet made.ensures.sheet_after
+    by_call c.args.line.now w Done done_printed (calls.close c.in-Close.lot w)
+    (read_as c.args.line.now w c.read_command.new.list _ _ c.read_command.ensures.0 c.in-Close.is)
+    made.result made.ensures.value c.args.out.now put.result put.ensures.value put.new.out put.ensures.out_after put.auto.out made.new.sheet made.ensures.sheet_after
 
 pub returns-in-Tally : goal.returns-in-Tally
 unfolding performed answer
 returns-in-Tally c =
-    let line : List ℕ = c.args.line.now in
-    let words : List ℕ = c.args.sheet.now in
-    let out : List ℕ = c.args.out.now in
-    let list : List ℕ = c.read_command.new.list in
-    let call : (x : Command) → c.read_command.result ≡ x → (R : Type 0) (bytes : R → List ℕ) (o : calls.Outcome R) → answered (meaning x list) words ≡ in_bytes bytes o → (d : R) → d ≡ o.reply → (r : ℕ) → r ≡ length (bytes d) → (last : List ℕ) → last ≡ written out 0 (bytes d) → length last ≡ length out → (after : List ℕ) → after ≡ o.words → Gives (answer line words) out r last after = λ x e R bytes o made d told r count last printed same after left. by_call line words R bytes o (ap (λ (m : Option command.Command). answered m words) (c.read_command.ensures.0 ∙ ap (λ (m : Command). meaning m list) e) ∙ made) d told out r count last printed same after left in
+    let w = c.args.sheet.now in
     let made = c.tally in
     let put = c.put_tally in
-    call _ c.in-Tally.is Tallied tally_printed (calls.tally (words)) refl made.result made.ensures put.result put.ensures.value put.new.out put.ensures.out_after put.auto.out (words) (sym (tally_words (words)))
+    by_call c.args.line.now w Tallied tally_printed (calls.tally w)
+    (read_as c.args.line.now w c.read_command.new.list _ _ c.read_command.ensures.0 c.in-Tally.is)
+    made.result made.ensures c.args.out.now put.result put.ensures.value put.new.out put.ensures.out_after put.auto.out w (sym (tally_words w))
 
 pub returns-in-Bad : goal.returns-in-Bad
 unfolding answer
 returns-in-Bad c =
-    let line : List ℕ = c.args.line.now in
-    let words : List ℕ = c.args.sheet.now in
-    let out : List ℕ = c.args.out.now in
-    let list : List ℕ = c.read_command.new.list in
-    let call : (x : Command) → c.read_command.result ≡ x → (R : Type 0) (bytes : R → List ℕ) (o : calls.Outcome R) → answered (meaning x list) words ≡ in_bytes bytes o → (d : R) → d ≡ o.reply → (r : ℕ) → r ≡ length (bytes d) → (last : List ℕ) → last ≡ written out 0 (bytes d) → length last ≡ length out → (after : List ℕ) → after ≡ o.words → Gives (answer line words) out r last after = λ x e R bytes o made d told r count last printed same after left. by_call line words R bytes o (ap (λ (m : Option command.Command). answered m words) (c.read_command.ensures.0 ∙ ap (λ (m : Command). meaning m list) e) ∙ made) d told out r count last printed same after left in
+    let w = c.args.sheet.now in
     let put = c.put_refusal in
-    call _ c.in-Bad.is ℕ refusal (record { reply = not_a_command; words = words }) refl not_a_command refl put.result put.ensures.value put.new.out put.ensures.out_after put.auto.out (words) refl
+    by_call c.args.line.now w ℕ refusal (record { reply = not_a_command; words = w })
+    (read_as c.args.line.now w c.read_command.new.list _ _ c.read_command.ensures.0 c.in-Bad.is)
+    not_a_command refl c.args.out.now put.result put.ensures.value put.new.out put.ensures.out_after put.auto.out w refl

@@ -1,9 +1,8 @@
-use Prim.Native.Nat.{ℕ}
+-- The answers for `command::read_number`; Invariants.antt says what its loop or recursion goes by. Assumes nothing.
 use native.Mathlib.Omega.{arith}
-use mathlib.Core.Bool.{true}
-use mathlib.Core.Path.{◌≡◌, ap, sym, ◌∙◌}
+use mathlib.Core.Path.{ap, sym, ◌∙◌}
 use lib.ListN.{get_or}
-use Rattle.commandmodel.specs.Decimal.{is_digit, up_to_largest}
+use Rattle.commandmodel.specs.Decimal.{up_to_largest}
 use Rattle.command.specs.Read.{as_number}
 use Rattle.commandmodel.proofs.Digits.{no_field, long_field, field_value, next_digit, no_digit, digit_below, digit_bounds, all_digits, above_largest, within_largest}
 use Rattle.command.proofs.decimal.read_number.Goals as goal
@@ -23,40 +22,40 @@ returns-then-not-is_digit c =
 
 pub overflow_mul-n : goal.overflow_mul-n
 overflow_mul-n c =
-    let byte : ℕ = get_or c.args.field.now c.loop-i.i 0 in
-    let digit : is_digit (byte) ≡ true = sym c.is_digit.ensures ∙ c.if-not-is_digit.false in
+    let byte = get_or c.args.field.now c.loop-i.i 0 in
+    let digit = sym c.is_digit.ensures ∙ c.if-not-is_digit.false in
     let l = c.loop-i in
-    let b = digit_below l.n l.i (byte) l.invariant.2 (omega arith) (digit) in
+    let b = digit_below l.n l.i byte l.invariant.2 (omega arith) digit in
     omega arith
 
 pub overflow_sub-n : goal.overflow_sub-n
 overflow_sub-n c =
-    let byte : ℕ = get_or c.args.field.now c.loop-i.i 0 in
-    let digit : is_digit (byte) ≡ true = sym c.is_digit.ensures ∙ c.if-not-is_digit.false in
-    let b = digit_bounds (byte) (digit) in omega arith
+    let byte = get_or c.args.field.now c.loop-i.i 0 in
+    let digit = sym c.is_digit.ensures ∙ c.if-not-is_digit.false in
+    let b = digit_bounds byte digit in omega arith
 
 pub overflow_cast-n : goal.overflow_cast-n
 overflow_cast-n c =
-    let byte : ℕ = get_or c.args.field.now c.loop-i.i 0 in
-    let digit : is_digit (byte) ≡ true = sym c.is_digit.ensures ∙ c.if-not-is_digit.false in
-    let b = digit_bounds (byte) (digit) in omega arith
+    let byte = get_or c.args.field.now c.loop-i.i 0 in
+    let digit = sym c.is_digit.ensures ∙ c.if-not-is_digit.false in
+    let b = digit_bounds byte digit in omega arith
 
 pub overflow_add-n : goal.overflow_add-n
 overflow_add-n c =
-    let byte : ℕ = get_or c.args.field.now c.loop-i.i 0 in
-    let digit : is_digit (byte) ≡ true = sym c.is_digit.ensures ∙ c.if-not-is_digit.false in
+    let byte = get_or c.args.field.now c.loop-i.i 0 in
+    let digit = sym c.is_digit.ensures ∙ c.if-not-is_digit.false in
     let l = c.loop-i in
-    let b = digit_below l.n l.i (byte) l.invariant.2 (omega arith) (digit) in
+    let b = digit_below l.n l.i byte l.invariant.2 (omega arith) digit in
     omega arith
 
 pub loop-i-preserved : goal.loop-i-preserved
 loop-i-preserved c =
-    let byte : ℕ = get_or c.args.field.now c.loop-i.i 0 in
-    let digit : is_digit (byte) ≡ true = sym c.is_digit.ensures ∙ c.if-not-is_digit.false in
+    let byte = get_or c.args.field.now c.loop-i.i 0 in
+    let digit = sym c.is_digit.ensures ∙ c.if-not-is_digit.false in
     let l = c.loop-i in
     let s = c.args.field.now in
-    let b = digit_below l.n l.i (byte) l.invariant.2 (omega arith) (digit) in
-    (omega arith, l.invariant.1 ∙ next_digit l.n s l.i c.loop-i-test.true (digit), b.0)
+    let b = digit_below l.n l.i byte l.invariant.2 (omega arith) digit in
+    (omega arith, l.invariant.1 ∙ next_digit l.n s l.i c.loop-i-test.true digit, b.0)
 
 pub returns-then-n-gt4294967295 : goal.returns-then-n-gt4294967295
 returns-then-n-gt4294967295 c =

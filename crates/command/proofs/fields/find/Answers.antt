@@ -1,3 +1,4 @@
+-- The answers for `command::find`; Invariants.antt says what its loop or recursion goes by. Assumes nothing.
 use native.Mathlib.Omega.{arith}
 use Rattle.command.proofs.OneField.{at_stop, no_stop, at_end}
 use Rattle.command.proofs.fields.find.Goals as goal

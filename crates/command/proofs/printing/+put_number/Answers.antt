@@ -1,3 +1,4 @@
+-- The answers for `command::put_number`; Invariants.antt says what its loop or recursion goes by. Assumes nothing.
 use Prim.Native.Nat.{◌+◌, ◌/◌}
 use borrow.Author.Rules.{rules}
 use native.Mathlib.Omega.{arith}

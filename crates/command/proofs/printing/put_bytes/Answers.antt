@@ -1,3 +1,4 @@
+-- The answers for `command::put_bytes`; Invariants.antt says what its loop or recursion goes by. Assumes nothing.
 use Prim.Native.Nat.{◌+◌}
 use native.Mathlib.Omega.{arith}
 use mathlib.Core.Path.{ap, ◌∙◌}

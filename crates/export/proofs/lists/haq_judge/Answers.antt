@@ -57,25 +57,25 @@ stop_of-requires c =
     let here : Short c.in-Stops.j = let call = c.judge in
     let a = c.args in
     short a.plan.now a.list.now _ (sym call.ensures ∙ c.in-Stops.is) in
-    (here).uncurtailed
+    here.uncurtailed
 
 pub stop_of-requires-in-Stops : goal.stop_of-requires-in-Stops
 stop_of-requires-in-Stops c =
     let here : Short c.in-Stops.j = let call = c.judge in
     let a = c.args in
     short a.plan.now a.list.now _ (sym call.ensures ∙ c.in-Stops.is) in
-    (here).semi
+    here.semi
 
 pub stop_of-requires-in-Stops-2 : goal.stop_of-requires-in-Stops-2
 stop_of-requires-in-Stops-2 c =
     let here : Short c.in-Stops.j = let call = c.judge in
     let a = c.args in
     short a.plan.now a.list.now _ (sym call.ensures ∙ c.in-Stops.is) in
-    (here).full
+    here.full
 
 pub stop_of-requires-in-Stops-3 : goal.stop_of-requires-in-Stops-3
 stop_of-requires-in-Stops-3 c =
     let here : Short c.in-Stops.j = let call = c.judge in
     let a = c.args in
     short a.plan.now a.list.now _ (sym call.ensures ∙ c.in-Stops.is) in
-    (here).earliest
+    here.earliest

@@ -1,3 +1,4 @@
+-- The answers for `judge::are_classes`; Invariants.antt says what its loop or recursion goes by. Assumes nothing.
 use mathlib.Core.Path.{sym, ◌∙◌}
 use mathlib.Core.Bool.{and-true}
 use lib.ListN.{drop_of_length-le}

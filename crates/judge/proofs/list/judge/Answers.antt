@@ -42,39 +42,39 @@ returns-then-not-are_classes c =
 
 pub event_of-requires : goal.event_of-requires
 event_of-requires c =
-    let ok : admitted c.args.plan.now ≡ true = sym c.admitted.ensures ∙ c.if-not-admitted.false in
+    let ok = sym c.admitted.ensures ∙ c.if-not-admitted.false in
     let a = c.args in
-    (ok, omega (arith, in_plan a.plan.now (ok) a.list.now _ c.stop_after-full.ensures, (shape a.plan.now (ok)).thousand_units))
+    (ok, omega (arith, in_plan a.plan.now ok a.list.now _ c.stop_after-full.ensures, (shape a.plan.now ok).thousand_units))
 
 pub returns : goal.returns
 returns c =
-    let ok : admitted c.args.plan.now ≡ true = sym c.admitted.ensures ∙ c.if-not-admitted.false in
-    let classes : are_classes c.args.list.now ≡ true = sym c.are_classes.ensures ∙ c.if-not-are_classes.false in
+    let ok = sym c.admitted.ensures ∙ c.if-not-admitted.false in
+    let classes = sym c.are_classes.ensures ∙ c.if-not-are_classes.false in
     let a = c.args in
     let full = c.stop_after-full in
     let uncurtailed = c.uncurtailed_stop-uncurtailed in
     let semi = c.semi_stop.ensures ∙ ap (semi_stop full.result) uncurtailed.ensures
-    ∙ semi_is a.plan.now (ok) a.list.now full.result full.ensures (classes) in
+    ∙ semi_is a.plan.now ok a.list.now full.result full.ensures classes in
     rw (c.event_of.ensures, semi, uncurtailed.ensures, c.earliest_stop.ensures, full.ensures)
-    (granted a.plan.now a.list.now (ok) (classes))
+    (granted a.plan.now a.list.now ok classes)
 
 pub before_full_stop-before-requires : goal.before_full_stop-before-requires
 before_full_stop-before-requires c =
-    let ok : admitted c.args.plan.now ≡ true = sym c.admitted.ensures ∙ c.if-not-admitted.false in
+    let ok = sym c.admitted.ensures ∙ c.if-not-admitted.false in
     ok
 
 pub stop_after-full-requires : goal.stop_after-full-requires
 stop_after-full-requires c =
-    let ok : admitted c.args.plan.now ≡ true = sym c.admitted.ensures ∙ c.if-not-admitted.false in
+    let ok = sym c.admitted.ensures ∙ c.if-not-admitted.false in
     (ok, c.before_full_stop-before.ensures)
 
 pub uncurtailed_stop-uncurtailed-requires : goal.uncurtailed_stop-uncurtailed-requires
 uncurtailed_stop-uncurtailed-requires c =
-    let ok : admitted c.args.plan.now ≡ true = sym c.admitted.ensures ∙ c.if-not-admitted.false in
+    let ok = sym c.admitted.ensures ∙ c.if-not-admitted.false in
     (ok, c.stop_after-full.ensures)
 
 pub earliest_stop-requires : goal.earliest_stop-requires
 earliest_stop-requires c =
-    let ok : admitted c.args.plan.now ≡ true = sym c.admitted.ensures ∙ c.if-not-admitted.false in
-    let classes : are_classes c.args.list.now ≡ true = sym c.are_classes.ensures ∙ c.if-not-are_classes.false in
+    let ok = sym c.admitted.ensures ∙ c.if-not-admitted.false in
+    let classes = sym c.are_classes.ensures ∙ c.if-not-are_classes.false in
     (ok, classes, c.stop_after-full.ensures, c.before_full_stop-before.ensures)

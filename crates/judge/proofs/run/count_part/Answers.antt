@@ -1,9 +1,10 @@
+-- The answers for `judge::count_part`; Invariants.antt says what its loop or recursion goes by. Assumes nothing.
 use native.Mathlib.Omega.{arith}
-use mathlib.Core.Path.{◌≡◌, ap, sym, ◌∙◌}
+use mathlib.Core.Path.{ap, sym, ◌∙◌}
 use lib.ListN.{take}
 use lib.Seq.{take_all}
 use Rattle.plan.specs.declared.counts.Counts.{Counts}
-use Rattle.plan.specs.Counts.{units, nongood, counts}
+use Rattle.plan.specs.Counts.{nongood, counts}
 use Rattle.plan.proofs.Promise.{counting}
 use Rattle.judge.proofs.Runs.{same_counts, units_to, next_class}
 use Rattle.judge.proofs.run.count_part.Goals as goal
@@ -29,7 +30,7 @@ loop-i-preserved c =
 
 pub returns : goal.returns
 returns c =
-    let in_part : units (counts (take c.loop-i.i c.args.part.now)) ≡ c.loop-i.i = units_to c.args.part.now c.loop-i.i c.loop-i.invariant.0 in
+    let in_part = units_to c.args.part.now c.loop-i.i c.loop-i.invariant.0 in
     let l = c.loop-i in
     let xs = c.args.part.now in
     let u = in_part in
@@ -43,30 +44,30 @@ overflow_cast-bad c = tt
 
 pub overflow_cast-result : goal.overflow_cast-result
 overflow_cast-result c =
-    let in_part : units (counts (take c.loop-i.i c.args.part.now)) ≡ c.loop-i.i = units_to c.args.part.now c.loop-i.i c.loop-i.invariant.0 in
+    let in_part = units_to c.args.part.now c.loop-i.i c.loop-i.invariant.0 in
     omega (arith, in_part)
 
 pub overflow_cast-result-2 : goal.overflow_cast-result-2
 overflow_cast-result-2 c =
-    let in_part : units (counts (take c.loop-i.i c.args.part.now)) ≡ c.loop-i.i = units_to c.args.part.now c.loop-i.i c.loop-i.invariant.0 in
+    let in_part = units_to c.args.part.now c.loop-i.i c.loop-i.invariant.0 in
     omega (arith, in_part)
 
 pub overflow_sub-result : goal.overflow_sub-result
 overflow_sub-result c =
-    let in_part : units (counts (take c.loop-i.i c.args.part.now)) ≡ c.loop-i.i = units_to c.args.part.now c.loop-i.i c.loop-i.invariant.0 in
+    let in_part = units_to c.args.part.now c.loop-i.i c.loop-i.invariant.0 in
     omega (arith, in_part)
 
 pub overflow_sub-result-2 : goal.overflow_sub-result-2
 overflow_sub-result-2 c =
-    let in_part : units (counts (take c.loop-i.i c.args.part.now)) ≡ c.loop-i.i = units_to c.args.part.now c.loop-i.i c.loop-i.invariant.0 in
+    let in_part = units_to c.args.part.now c.loop-i.i c.loop-i.invariant.0 in
     omega (arith, in_part)
 
 pub overflow_cast-result-3 : goal.overflow_cast-result-3
 overflow_cast-result-3 c =
-    let in_part : units (counts (take c.loop-i.i c.args.part.now)) ≡ c.loop-i.i = units_to c.args.part.now c.loop-i.i c.loop-i.invariant.0 in
+    let in_part = units_to c.args.part.now c.loop-i.i c.loop-i.invariant.0 in
     omega (arith, in_part)
 
 pub overflow_cast-result-4 : goal.overflow_cast-result-4
 overflow_cast-result-4 c =
-    let in_part : units (counts (take c.loop-i.i c.args.part.now)) ≡ c.loop-i.i = units_to c.args.part.now c.loop-i.i c.loop-i.invariant.0 in
+    let in_part = units_to c.args.part.now c.loop-i.i c.loop-i.invariant.0 in
     omega (arith, in_part)

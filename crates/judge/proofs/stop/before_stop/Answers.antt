@@ -1,3 +1,4 @@
+-- The answers for `judge::before_stop`; Invariants.antt says what its loop or recursion goes by. Assumes nothing.
 use Prim.Native.Nat.{ℕ, ◌+◌}
 use native.Mathlib.Omega.{arith}
 use mathlib.Core.Path.{sym, ap, ◌∙◌}
@@ -27,7 +28,7 @@ answer-requires c =
     halved s.plan.now s.way s.list.now l.c l.high l.invariant.1 m (omega (arith, l.invariant.0)) (omega (arith, l.invariant.0)) c.count_run-d.result
     (c.count_run-d.ensures ∙ ap (λ (n : ℕ). counts_after l.c (run s.list.now n m)) l.invariant.0) in
     let l = c.loop-high in
-    ((shape c.args.plan.now c.requires.0).thousand_units, omega (arith, (middle).units, l.invariant.1.thousand))
+    ((shape c.args.plan.now c.requires.0).thousand_units, omega (arith, middle.units, l.invariant.1.thousand))
 
 pub loop-high-preserved-then-goes_on : goal.loop-high-preserved-then-goes_on
 loop-high-preserved-then-goes_on c =

@@ -21,13 +21,13 @@ answer-requires c =
     let next : record { answer = answer c.args.way (stages c.args.plan.now) c.add_units-c.result; counts = c.add_units-c.result } ≡ stop_of c.args.way c.args.plan.now c.args.list.now = stop_next c.args.plan.now c.args.way c.args.list.now c.requires.0 c.args.before c.requires.1 (omega (arith, c.units-i.ensures, c.if-list-i.false))
     c.add_units-c.result (rw (sym c.units-i.ensures) c.add_units-c.ensures) in
     let h = (shape c.args.plan.now c.requires.0).thousand_units in
-    (h, omega (arith, h, ap at (next), stop_within c.args.plan.now c.requires.0 c.args.way no_units c.args.list.now))
+    (h, omega (arith, h, ap at next, stop_within c.args.plan.now c.requires.0 c.args.way no_units c.args.list.now))
 
 pub returns : goal.returns
 returns c =
     let next : record { answer = answer c.args.way (stages c.args.plan.now) c.add_units-c.result; counts = c.add_units-c.result } ≡ stop_of c.args.way c.args.plan.now c.args.list.now = stop_next c.args.plan.now c.args.way c.args.list.now c.requires.0 c.args.before c.requires.1 (omega (arith, c.units-i.ensures, c.if-list-i.false))
     c.add_units-c.result (rw (sym c.units-i.ensures) c.add_units-c.ensures) in
-    rw c.answer.ensures (next)
+    rw c.answer.ensures next
 
 pub units-i-requires : goal.units-i-requires
 units-i-requires c = c.requires.1.thousand

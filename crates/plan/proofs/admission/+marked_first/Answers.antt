@@ -1,3 +1,4 @@
+-- The answers for `plan::marked_first`; Invariants.antt says what its loop or recursion goes by. Assumes nothing.
 use native.Mathlib.Omega.{arith}
 use mathlib.Core.Path.{sym, ◌∙◌}
 use Rattle.plan.proofs.Stages.{after, length_after}

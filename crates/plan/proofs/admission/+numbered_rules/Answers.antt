@@ -1,3 +1,4 @@
+-- The answers for `plan::numbered_rules`; Invariants.antt says what its loop or recursion goes by. Assumes nothing.
 use native.Mathlib.Omega.{arith}
 use mathlib.Core.Path.{sym, ◌∙◌}
 use borrow.Author.Tests.{lt-leb}

@@ -1,3 +1,4 @@
+-- The answers for `plan::rejection_at`; Invariants.antt says what its loop or recursion goes by. Assumes nothing.
 use native.Mathlib.Omega.{arith}
 use mathlib.Core.Path.{sym, ◌∙◌}
 use Rattle.plan.proofs.Stages.{total_more}

@@ -1,3 +1,4 @@
+-- The answers for `plan::ends_beside`; Invariants.antt says what its loop or recursion goes by. Assumes nothing.
 use native.Mathlib.Omega.{arith}
 use mathlib.Core.Path.{refl, sym, ◌∙◌}
 use Rattle.plan.proofs.Stages.{total_more}

@@ -1,3 +1,4 @@
+-- The answers for `plan::sample_size`; Invariants.antt says what its loop or recursion goes by. Assumes nothing.
 use native.Mathlib.Omega.{arith}
 use Rattle.plan.proofs.Stages.{total_none, total_more}
 use Rattle.plan.proofs.size.sample_size.Goals as goal

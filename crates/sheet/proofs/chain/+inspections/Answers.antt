@@ -1,35 +1,29 @@
-use Prim.Native.Nat.{◌≤◌}
+-- The answers for `sheet::inspections`; Invariants.antt says what its loop or recursion goes by. Assumes nothing.
 use native.Mathlib.Omega.{arith}
-use mathlib.Core.Path.{◌≡◌, sym, ap, ◌∙◌}
+use mathlib.Core.Path.{sym, ap, ◌∙◌}
 use Rattle.plan.specs.Plan.{stages}
-use Rattle.plan.specs.Counts.{units}
 use Rattle.plan.proofs.Promise.{promise, shape}
 use Rattle.sheet.specs.declared.chain.Chain.TheVariants.{Corrupt, Whole}
-use Rattle.sheet.specs.declared.chain.Part.TheVariants as part
-use Rattle.sheetmodel.specs.Read.{read_inspections, undecided}
-use Rattle.sheet.specs.Survey.{tested, chain_of, with_older, with_newer, if_undecided}
-use Rattle.sheet.proofs.ChainSteps.{newer_chain, newer_units as units-of-newer, none_older, not_none_older, older_by, whole_units}
+use Rattle.sheetmodel.specs.Read.{undecided}
+use Rattle.sheet.specs.Survey.{tested}
+use Rattle.sheet.proofs.ChainSteps.{newer_chain, newer_units as units_of_newer, none_older, not_none_older, older_by, whole_units}
 use Rattle.sheet.proofs.chain.+inspections.Goals as goal
 
 -- where the newer inspections are passed
 
 pub returns-then-next-eq0 : goal.returns-then-next-eq0
 returns-then-next-eq0 t c =
-    let newer_passed : let a = c.args in chain_of (tested (stages a.plan.now) a.test) (read_inspections a.first a.sheet.now a.lot a.serial a.at) ≡ with_older (stages a.plan.now) a.first a.sheet.now a.lot a.test (part.Whole c.in-Whole.newer c.in-Whole.blanks c.in-Whole.next) = let a = c.args in
-    newer_chain a.first a.sheet.now a.lot (stages a.plan.now) a.test a.serial a.at c.requires.3 _
-    (sym c.in-Whole.is ∙ c.newer_part.ensures) in
     let a = c.args in
+    let newer = newer_chain a.first a.sheet.now a.lot (stages a.plan.now) a.test a.serial a.at c.requires.3 _ (sym c.in-Whole.is ∙ c.newer_part.ensures) in
     sym
-    (newer_passed
+    (newer
     ∙ none_older a.first a.sheet.now a.lot (stages a.plan.now) a.test _ _ _ (promise a.plan.now c.requires.1).empty c.if-test-eq0.true c.if-next-eq0.true)
 
 pub returns-then-test-eq0 : goal.returns-then-test-eq0
 returns-then-test-eq0 t c =
-    let newer_passed : let a = c.args in chain_of (tested (stages a.plan.now) a.test) (read_inspections a.first a.sheet.now a.lot a.serial a.at) ≡ with_older (stages a.plan.now) a.first a.sheet.now a.lot a.test (part.Whole c.in-Whole.newer c.in-Whole.blanks c.in-Whole.next) = let a = c.args in
-    newer_chain a.first a.sheet.now a.lot (stages a.plan.now) a.test a.serial a.at c.requires.3 _
-    (sym c.in-Whole.is ∙ c.newer_part.ensures) in
     let a = c.args in
-    sym (newer_passed ∙ not_none_older a.first a.sheet.now a.lot (stages a.plan.now) a.test _ _ _ c.if-test-eq0.true c.if-next-eq0.false)
+    let newer = newer_chain a.first a.sheet.now a.lot (stages a.plan.now) a.test a.serial a.at c.requires.3 _ (sym c.in-Whole.is ∙ c.newer_part.ensures) in
+    sym (newer ∙ not_none_older a.first a.sheet.now a.lot (stages a.plan.now) a.test _ _ _ c.if-test-eq0.true c.if-next-eq0.false)
 
 pub end_below-below-requires : goal.end_below-below-requires
 end_below-below-requires t c =
@@ -43,48 +37,36 @@ inspections-requires t c =
 
 pub earliest-requires : goal.earliest-requires
 earliest-requires t c =
-    let older_units : (units c.in-Whole-inspections.older ≤ 1000) × (c.in-Whole-inspections.older_blanks ≤ 1000) = let a = c.args in
-    let few =
-    whole_units a.first a.sheet.now a.lot (tested (stages a.plan.now) c.end_below-below.result) a.test c.in-Whole.next
+    let a = c.args in
+    let older = whole_units a.first a.sheet.now a.lot (tested (stages a.plan.now) c.end_below-below.result) a.test c.in-Whole.next
     c.in-Whole-inspections.older c.in-Whole-inspections.older_blanks (sym c.inspections.ensures ∙ c.in-Whole-inspections.is) in
-    (omega (arith, c.requires.2, c.requires.3, few.0), omega (arith, c.requires.2, c.requires.3, few.1)) in
-    ((shape c.args.plan.now c.requires.1).thousand_units, (older_units).0)
+    ((shape a.plan.now c.requires.1).thousand_units, omega (arith, c.requires.2, c.requires.3, older.0))
 
 pub returns-then-not-is_undecided : goal.returns-then-not-is_undecided
 returns-then-not-is_undecided t c =
-    let newer_passed : let a = c.args in chain_of (tested (stages a.plan.now) a.test) (read_inspections a.first a.sheet.now a.lot a.serial a.at) ≡ with_older (stages a.plan.now) a.first a.sheet.now a.lot a.test (part.Whole c.in-Whole.newer c.in-Whole.blanks c.in-Whole.next) = let a = c.args in
-    newer_chain a.first a.sheet.now a.lot (stages a.plan.now) a.test a.serial a.at c.requires.3 _
-    (sym c.in-Whole.is ∙ c.newer_part.ensures) in
-    let older_passed : let a = c.args in chain_of (tested (stages a.plan.now) a.test) (read_inspections a.first a.sheet.now a.lot a.serial a.at) ≡ with_newer c.in-Whole.newer c.in-Whole.blanks (if_undecided (stages a.plan.now) (Whole c.in-Whole-inspections.older c.in-Whole-inspections.older_blanks)) = let a = c.args in
+    let a = c.args in
+    let newer = newer_chain a.first a.sheet.now a.lot (stages a.plan.now) a.test a.serial a.at c.requires.3 _ (sym c.in-Whole.is ∙ c.newer_part.ensures) in
     let e = c.end_below-below in
-    newer_passed
+    let older = newer
     ∙ older_by a.first a.sheet.now a.lot (stages a.plan.now) a.test _ _ _ e.result e.ensures (Whole c.in-Whole-inspections.older c.in-Whole-inspections.older_blanks)
     (sym c.in-Whole-inspections.is ∙ c.inspections.ensures) in
-    sym (older_passed ∙ rw (ap undecided (sym c.earliest.ensures) ∙ sym c.is_undecided.ensures ∙ c.if-not-is_undecided.true))
+    sym (older ∙ rw (ap undecided (sym c.earliest.ensures) ∙ sym c.is_undecided.ensures ∙ c.if-not-is_undecided.true))
 
 pub all_units-requires : goal.all_units-requires
 all_units-requires t c =
-    let newer_units : (units c.in-Whole.newer ≤ 1000) × (c.in-Whole.blanks ≤ 1000) = let a = c.args in
-    let few = units-of-newer a.first a.sheet.now a.lot a.test a.serial a.at c.in-Whole.newer c.in-Whole.blanks _ (sym c.in-Whole.is ∙ c.newer_part.ensures) in
-    (omega (arith, c.requires.2, few.0), omega (arith, c.requires.2, few.1)) in
-    let older_units : (units c.in-Whole-inspections.older ≤ 1000) × (c.in-Whole-inspections.older_blanks ≤ 1000) = let a = c.args in
-    let few =
-    whole_units a.first a.sheet.now a.lot (tested (stages a.plan.now) c.end_below-below.result) a.test c.in-Whole.next
+    let newer = units_of_newer c.args.first c.args.sheet.now c.args.lot c.args.test c.args.serial c.args.at c.in-Whole.newer c.in-Whole.blanks _ (sym c.in-Whole.is ∙ c.newer_part.ensures) in
+    let a = c.args in
+    let older = whole_units a.first a.sheet.now a.lot (tested (stages a.plan.now) c.end_below-below.result) a.test c.in-Whole.next
     c.in-Whole-inspections.older c.in-Whole-inspections.older_blanks (sym c.inspections.ensures ∙ c.in-Whole-inspections.is) in
-    (omega (arith, c.requires.2, c.requires.3, few.0), omega (arith, c.requires.2, c.requires.3, few.1)) in
-    omega (arith, (older_units).0, (newer_units).0)
+    omega (arith, c.requires.2, c.requires.3, older.0, newer.0)
 
 pub overflow_add-result : goal.overflow_add-result
 overflow_add-result t c =
-    let newer_units : (units c.in-Whole.newer ≤ 1000) × (c.in-Whole.blanks ≤ 1000) = let a = c.args in
-    let few = units-of-newer a.first a.sheet.now a.lot a.test a.serial a.at c.in-Whole.newer c.in-Whole.blanks _ (sym c.in-Whole.is ∙ c.newer_part.ensures) in
-    (omega (arith, c.requires.2, few.0), omega (arith, c.requires.2, few.1)) in
-    let older_units : (units c.in-Whole-inspections.older ≤ 1000) × (c.in-Whole-inspections.older_blanks ≤ 1000) = let a = c.args in
-    let few =
-    whole_units a.first a.sheet.now a.lot (tested (stages a.plan.now) c.end_below-below.result) a.test c.in-Whole.next
+    let newer = units_of_newer c.args.first c.args.sheet.now c.args.lot c.args.test c.args.serial c.args.at c.in-Whole.newer c.in-Whole.blanks _ (sym c.in-Whole.is ∙ c.newer_part.ensures) in
+    let a = c.args in
+    let older = whole_units a.first a.sheet.now a.lot (tested (stages a.plan.now) c.end_below-below.result) a.test c.in-Whole.next
     c.in-Whole-inspections.older c.in-Whole-inspections.older_blanks (sym c.inspections.ensures ∙ c.in-Whole-inspections.is) in
-    (omega (arith, c.requires.2, c.requires.3, few.0), omega (arith, c.requires.2, c.requires.3, few.1)) in
-    omega (arith, (older_units).1, (newer_units).1)
+    omega (arith, c.requires.2, c.requires.3, older.1, newer.1)
 
 pub returns-in-Corrupt : goal.returns-in-Corrupt
 returns-in-Corrupt t c =
@@ -94,25 +76,21 @@ returns-in-Corrupt t c =
 
 pub returns-in-Corrupt-inspections : goal.returns-in-Corrupt-inspections
 returns-in-Corrupt-inspections t c =
-    let newer_passed : let a = c.args in chain_of (tested (stages a.plan.now) a.test) (read_inspections a.first a.sheet.now a.lot a.serial a.at) ≡ with_older (stages a.plan.now) a.first a.sheet.now a.lot a.test (part.Whole c.in-Whole.newer c.in-Whole.blanks c.in-Whole.next) = let a = c.args in
-    newer_chain a.first a.sheet.now a.lot (stages a.plan.now) a.test a.serial a.at c.requires.3 _
-    (sym c.in-Whole.is ∙ c.newer_part.ensures) in
     let a = c.args in
+    let newer = newer_chain a.first a.sheet.now a.lot (stages a.plan.now) a.test a.serial a.at c.requires.3 _ (sym c.in-Whole.is ∙ c.newer_part.ensures) in
     let e = c.end_below-below in
     sym
-    (newer_passed
+    (newer
     ∙ older_by a.first a.sheet.now a.lot (stages a.plan.now) a.test _ _ _ e.result e.ensures Corrupt
     (sym c.in-Corrupt-inspections.is ∙ c.inspections.ensures))
 
 pub returns-else-not-is_undecided : goal.returns-else-not-is_undecided
 returns-else-not-is_undecided t c =
-    let newer_passed : let a = c.args in chain_of (tested (stages a.plan.now) a.test) (read_inspections a.first a.sheet.now a.lot a.serial a.at) ≡ with_older (stages a.plan.now) a.first a.sheet.now a.lot a.test (part.Whole c.in-Whole.newer c.in-Whole.blanks c.in-Whole.next) = let a = c.args in
-    newer_chain a.first a.sheet.now a.lot (stages a.plan.now) a.test a.serial a.at c.requires.3 _
-    (sym c.in-Whole.is ∙ c.newer_part.ensures) in
-    let older_passed : let a = c.args in chain_of (tested (stages a.plan.now) a.test) (read_inspections a.first a.sheet.now a.lot a.serial a.at) ≡ with_newer c.in-Whole.newer c.in-Whole.blanks (if_undecided (stages a.plan.now) (Whole c.in-Whole-inspections.older c.in-Whole-inspections.older_blanks)) = let a = c.args in
+    let a = c.args in
+    let newer = newer_chain a.first a.sheet.now a.lot (stages a.plan.now) a.test a.serial a.at c.requires.3 _ (sym c.in-Whole.is ∙ c.newer_part.ensures) in
     let e = c.end_below-below in
-    newer_passed
+    let older = newer
     ∙ older_by a.first a.sheet.now a.lot (stages a.plan.now) a.test _ _ _ e.result e.ensures (Whole c.in-Whole-inspections.older c.in-Whole-inspections.older_blanks)
     (sym c.in-Whole-inspections.is ∙ c.inspections.ensures) in
     rw c.all_units.ensures
-    (sym (older_passed ∙ rw (ap undecided (sym c.earliest.ensures) ∙ sym c.is_undecided.ensures ∙ c.if-not-is_undecided.false)))
+    (sym (older ∙ rw (ap undecided (sym c.earliest.ensures) ∙ sym c.is_undecided.ensures ∙ c.if-not-is_undecided.false)))

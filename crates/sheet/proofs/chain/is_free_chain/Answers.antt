@@ -1,3 +1,4 @@
+-- The answers for `sheet::is_free_chain`; Invariants.antt says what its loop or recursion goes by. Assumes nothing.
 use mathlib.Core.Path.{sym, ◌∙◌}
 use native.Mathlib.Omega.{arith}
 use Rattle.sheet.proofs.Used.{free_within}

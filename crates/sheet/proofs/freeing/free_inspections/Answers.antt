@@ -1,6 +1,6 @@
+-- The answers for `sheet::free_inspections`; Invariants.antt says what its loop or recursion goes by. Assumes nothing.
 use mathlib.Core.Path.{refl, ◌∙◌}
 use native.Mathlib.Omega.{arith}
-use Rattle.sheet.specs.Writes.{InWords}
 use Rattle.sheet.proofs.FreedChain.{left_start, left_in, left_step, left_done}
 use Rattle.sheet.proofs.freeing.free_inspections.Goals as goal
 
@@ -9,12 +9,12 @@ loop-left-init c = (left_start c.args.sheet.now c.args.lot c.args.count c.args.n
 
 pub field_of-older-requires : goal.field_of-older-requires
 field_of-older-requires c =
-    let inside : InWords c.loop-left.sheet c.loop-left.at = left_in c.loop-left.invariant.0 c.loop-left-test.true in
+    let inside = left_in c.loop-left.invariant.0 c.loop-left-test.true in
     omega (arith, inside)
 
 pub free_record-requires : goal.free_record-requires
 free_record-requires c =
-    let inside : InWords c.loop-left.sheet c.loop-left.at = left_in c.loop-left.invariant.0 c.loop-left-test.true in
+    let inside = left_in c.loop-left.invariant.0 c.loop-left-test.true in
     let f = c.loop-left.invariant.0.can in
     (record { sized = f.sized; front = f.front; deep = omega arith }, inside)
 

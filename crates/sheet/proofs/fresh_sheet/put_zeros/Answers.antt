@@ -1,3 +1,4 @@
+-- The answers for `sheet::put_zeros`; Invariants.antt says what its loop or recursion goes by. Assumes nothing.
 use mathlib.Core.Path.{◌≡◌, refl, ap, ◌∙◌}
 use native.Mathlib.Omega.{arith}
 use lib.ListN.{length-set}

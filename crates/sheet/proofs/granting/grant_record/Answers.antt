@@ -1,6 +1,5 @@
 -- `sheet::grant_record` meets its contract: rows 11 and 19. Assumes nothing.
-use mathlib.Core.Path.{◌≡◌, refl, sym, ◌∙◌}
-use mathlib.Core.Bool.{false}
+use mathlib.Core.Path.{refl, sym, ◌∙◌}
 use mathlib.Core.Logic.{inl, inr}
 use Rattle.sheetmodel.specs.Rows.{record_rows}
 use Rattle.sheetmodel.specs.Calls.{full, held_back}
@@ -18,12 +17,12 @@ returns-then-is_full c =
 
 pub returns-then-not-may_take : goal.returns-then-not-may_take
 returns-then-not-may_take c =
-    let not_full : full c.args.sheet.now ≡ false = sym c.is_full.ensures ∙ c.if-is_full.false in
+    let not_full = sym c.is_full.ensures ∙ c.if-is_full.false in
     let a = c.args in
     sym (denying (record_rows (full a.sheet.now) (held_back a.lot a.sheet.now)) 19 (inr (not_full, inl (rw (← c.may_take.ensures) (rw c.if-not-may_take.true refl), refl))))
 
 pub returns : goal.returns
 returns c =
-    let not_full : full c.args.sheet.now ≡ false = sym c.is_full.ensures ∙ c.if-is_full.false in
+    let not_full = sym c.is_full.ensures ∙ c.if-is_full.false in
     let a = c.args in
     sym (giving (record_rows (full a.sheet.now) (held_back a.lot a.sheet.now)) (not_full, (rw (← c.may_take.ensures) (rw c.if-not-may_take.false refl), tt)))

@@ -1,10 +1,9 @@
 -- `sheet::header_ok` meets its contract: one test after the other. Assumes nothing.
 use borrow.Author.Tests.{le-leb, lt-leb}
-use mathlib.Core.Path.{◌≡◌, sym, ap, ◌∙◌}
-use mathlib.Core.Bool.{true}
+use mathlib.Core.Path.{sym, ap, ◌∙◌}
 use native.Mathlib.Omega.{arith}
 use Rattle.plan.specs.Plan.{admitted}
-use Rattle.sheetmodel.specs.Layout.{word, next_unused, plan_words, unused_stages, records}
+use Rattle.sheetmodel.specs.Layout.{word, next_unused, records}
 use Rattle.sheetmodel.specs.Read.{all_zero}
 use Rattle.sheet.proofs.HeaderSteps.{too_many, few_unused}
 use Rattle.sheet.proofs.header.header_ok.Goals as goal
@@ -21,19 +20,19 @@ is_zero-requires c = rw c.unused_stages.ensures (omega (arith, few_unused c.args
 
 pub returns-then-not-is_zero : goal.returns-then-not-is_zero
 returns-then-not-is_zero c =
-    let plan_ok : admitted (plan_words c.args.sheet.now) ≡ true = ap admitted (sym c.plan_of.ensures) ∙ sym c.admitted.ensures ∙ c.if-not-admitted.false in
+    let plan_ok = ap admitted (sym c.plan_of.ensures) ∙ sym c.admitted.ensures ∙ c.if-not-admitted.false in
     rw (plan_ok, ap all_zero (sym c.unused_stages.ensures) ∙ sym c.is_zero.ensures ∙ c.if-not-is_zero.true)
 
 pub returns-then-unused-first : goal.returns-then-unused-first
 returns-then-unused-first c =
-    let plan_ok : admitted (plan_words c.args.sheet.now) ≡ true = ap admitted (sym c.plan_of.ensures) ∙ sym c.admitted.ensures ∙ c.if-not-admitted.false in
-    let rest_ok : all_zero (unused_stages c.args.sheet.now) ≡ true = ap all_zero (sym c.unused_stages.ensures) ∙ sym c.is_zero.ensures ∙ c.if-not-is_zero.false in
+    let plan_ok = ap admitted (sym c.plan_of.ensures) ∙ sym c.admitted.ensures ∙ c.if-not-admitted.false in
+    let rest_ok = ap all_zero (sym c.unused_stages.ensures) ∙ sym c.is_zero.ensures ∙ c.if-not-is_zero.false in
     rw (plan_ok, rest_ok, lt-leb c.args.first (word c.args.sheet.now next_unused) c.if-unused-first.true)
 
 pub returns-then-record_count-unused : goal.returns-then-record_count-unused
 returns-then-record_count-unused c =
-    let plan_ok : admitted (plan_words c.args.sheet.now) ≡ true = ap admitted (sym c.plan_of.ensures) ∙ sym c.admitted.ensures ∙ c.if-not-admitted.false in
-    let rest_ok : all_zero (unused_stages c.args.sheet.now) ≡ true = ap all_zero (sym c.unused_stages.ensures) ∙ sym c.is_zero.ensures ∙ c.if-not-is_zero.false in
+    let plan_ok = ap admitted (sym c.plan_of.ensures) ∙ sym c.admitted.ensures ∙ c.if-not-admitted.false in
+    let rest_ok = ap all_zero (sym c.unused_stages.ensures) ∙ sym c.is_zero.ensures ∙ c.if-not-is_zero.false in
     rw (
       plan_ok,
       rest_ok,
@@ -43,8 +42,8 @@ returns-then-record_count-unused c =
 
 pub returns : goal.returns
 returns c =
-    let plan_ok : admitted (plan_words c.args.sheet.now) ≡ true = ap admitted (sym c.plan_of.ensures) ∙ sym c.admitted.ensures ∙ c.if-not-admitted.false in
-    let rest_ok : all_zero (unused_stages c.args.sheet.now) ≡ true = ap all_zero (sym c.unused_stages.ensures) ∙ sym c.is_zero.ensures ∙ c.if-not-is_zero.false in
+    let plan_ok = ap admitted (sym c.plan_of.ensures) ∙ sym c.admitted.ensures ∙ c.if-not-admitted.false in
+    let rest_ok = ap all_zero (sym c.unused_stages.ensures) ∙ sym c.is_zero.ensures ∙ c.if-not-is_zero.false in
     rw (
       plan_ok,
       rest_ok,

@@ -1,29 +1,20 @@
 -- `sheet::look` meets its contract. Assumes nothing.
-use Prim.Native.Nat.{ℕ}
 use mathlib.Core.Path.{refl, sym, ◌∙◌}
-use mathlib.Core.List.{List}
-use Rattle.sheet.specs.declared.survey.Found.{Found}
-use Rattle.sheet.proofs.LocatedFacts.{WithLot, with_lot}
+use Rattle.sheet.proofs.LocatedFacts.{with_lot}
 use Rattle.sheet.proofs.CallSteps.{answer_requires, few, look_refused, look_shown}
 use Rattle.sheet.proofs.looking.look.Goals as goal
 
--- the arguments, and what is found, by the place where the lot is found
+-- k: what is known where the lot is found
 
 pub answer_to-requires : goal.answer_to-requires
 answer_to-requires c =
-    let lot_of : ℕ = c.args.lot in
-    let words : List ℕ = c.args.sheet.now in
-    let found : Found = c.in-At.f in
-    let facts : WithLot (lot_of) (words) (found) = with_lot (lot_of) (words) (found) (sym c.locate_lot.ensures ∙ c.in-At.is) in
-    answer_requires (lot_of) (words) (found) (facts)
+    let k = with_lot c.args.lot c.args.sheet.now c.in-At.f (sym c.locate_lot.ensures ∙ c.in-At.is) in
+    answer_requires _ _ _ k
 
 pub units-requires : goal.units-requires
 units-requires c =
-    let lot_of : ℕ = c.args.lot in
-    let words : List ℕ = c.args.sheet.now in
-    let found : Found = c.in-At.f in
-    let facts : WithLot (lot_of) (words) (found) = with_lot (lot_of) (words) (found) (sym c.locate_lot.ensures ∙ c.in-At.is) in
-    few (lot_of) (words) (found) (facts)
+    let k = with_lot c.args.lot c.args.sheet.now c.in-At.f (sym c.locate_lot.ensures ∙ c.in-At.is) in
+    few _ _ _ k
 
 pub returns-in-Refused : goal.returns-in-Refused
 returns-in-Refused c =
@@ -31,8 +22,5 @@ returns-in-Refused c =
 
 pub returns-in-At : goal.returns-in-At
 returns-in-At c =
-    let lot_of : ℕ = c.args.lot in
-    let words : List ℕ = c.args.sheet.now in
-    let found : Found = c.in-At.f in
-    let facts : WithLot (lot_of) (words) (found) = with_lot (lot_of) (words) (found) (sym c.locate_lot.ensures ∙ c.in-At.is) in
-    rw (look_shown (lot_of) (words) (found) (facts)) (rw (c.units.ensures, c.answer_to.ensures) refl)
+    let k = with_lot c.args.lot c.args.sheet.now c.in-At.f (sym c.locate_lot.ensures ∙ c.in-At.is) in
+    rw (look_shown _ _ _ k) (rw (c.units.ensures, c.answer_to.ensures) refl)
