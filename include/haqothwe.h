@@ -1,6 +1,6 @@
 /*
  * Curtailed inspection of coded lots: the functions of libexport.a, which
- * `rt staticlib export` proves and makes.
+ * `rt lib` in crates/export proves and makes.
  *
  * Each function returns 0 if the call is granted, else the number of its
  * refusal; where several apply, the first of enum haq_refusal. A refused call
