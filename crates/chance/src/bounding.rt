@@ -31,7 +31,7 @@ fn last_reject2(plan: &[u32]) -> usize
 // their middle on is for the highs.
 fn bounds(plan: &[u32], scratch: &mut [u64], s: Setting) -> Bounds
     requires prepared { Prepared plan.now scratch.old s }
-    requires r2_in_bounds { 2 * (s.r1 * s.r2) ≤ length scratch.old }
+    requires room { 2 * (s.r1 * s.r2) ≤ length scratch.old }
     ensures value { result ≡ valued_bounds plan.now (setting_value plan.now s) }
     ensures beyond { Beyond (2 * (s.r1 * s.r2)) scratch.old scratch.new }
 {
@@ -54,8 +54,8 @@ pub fn fitted(
     w: Weights,
     left: bool,
 ) -> BoundsAnswer
-    requires plan_value { (admitted plan.now ≡ true) × Proportions w × (accepted + cost * 1001 ≤ scale) }
-    requires plan_bound { left ≡ true → total (stages plan.now) ≤ weight_sum w }
+    requires suits { (admitted plan.now ≡ true) × Proportions w × (accepted + cost * 1001 ≤ scale) }
+    requires enough { left ≡ true → total (stages plan.now) ≤ weight_sum w }
     ensures value { result ≡ fitted_answer plan.now (valuation plan.now accepted cost w left) (length scratch.old) }
     ensures beyond { Beyond (fitted_words plan.now (length scratch.old)) scratch.old scratch.new }
 {

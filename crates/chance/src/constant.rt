@@ -22,7 +22,7 @@ pub struct Constant {
 }
 
 pub fn constant_of(s: Setting, d: Reciprocal) -> Constant
-    requires left_value { (s.left ≡ false) × Proportions s.weights }
+    requires constant_weights { (s.left ≡ false) × Proportions s.weights }
     requires cost_le_scale { s.cost ≤ scale }
     requires exact { Exact d × (d.by ≡ weight_sum s.weights) }
     ensures { ConstantFor s result }

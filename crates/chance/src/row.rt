@@ -24,7 +24,7 @@ pub fn fill(layer: &mut [u64], from: usize, to: usize, value: u64)
 
 // The value of g nongood and b bad units, which is 0 where g reaches r1.
 fn value_at(layer: &[u64], r1: usize, r2: usize, g: usize, b: usize) -> u64
-    requires r2_in_bounds { r1 * r2 ≤ length layer.now }
+    requires room { r1 * r2 ≤ length layer.now }
     requires b_lt_r2 { b < r2 }
     ensures { result ≡ word r1 r2 layer.now g b }
 {

@@ -19,7 +19,7 @@ pub enum Count {
 pub fn read_numbers(line: &[u8], start: usize, list: &mut [u32]) -> Count
     requires { (start ≤ length line.now) × (length list.old ≡ most_numbers) }
     ensures value { result ≡ as_count (numbers (fields_after (drop start line.now))) }
-    ensures by_index { (ns : List ℕ) → numbers (fields_after (drop start line.now)) ≡ some ns → length ns ≤ most_numbers → take (length ns) list.new ≡ ns }
+    ensures listed { (ns : List ℕ) → numbers (fields_after (drop start line.now)) ≡ some ns → length ns ≤ most_numbers → take (length ns) list.new ≡ ns }
 {
     let mut n: usize = 0;
     let mut at = start;

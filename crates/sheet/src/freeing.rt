@@ -34,8 +34,8 @@ pub fn free_record(sheet: &mut [u32], j: u32)
 // then be freed, the lot's.
 pub fn free_inspections(sheet: &mut [u32], lot: u32, count: u32, newest: u32)
     requires freeing { Freeing sheet.old (count + 1) }
-    requires newest_value { is_some (read_chain sheet.old lot count newest) ≡ true }
-    ensures freeing_2 { Freeing sheet.new 1 }
+    requires whole_chain { is_some (read_chain sheet.old lot count newest) ≡ true }
+    ensures still_freeing { Freeing sheet.new 1 }
     ensures sheet_after { sheet.new ≡ free_inspections sheet.old (chain sheet.old lot count newest) }
 {
     let mut left = count;

@@ -41,8 +41,8 @@ pub fitted-requires : goal.fitted-requires
 fitted-requires c =
     let ok = sym c.admitted.ensures ∙ c.if-not-admitted.false in
     record {
-      plan_value = (ok, record { some = omega arith; few = omega arith }, c.requires);
-      plan_bound = λ e. absurd (true≢false (sym e));
+      suits = (ok, record { some = omega arith; few = omega arith }, c.requires);
+      enough = λ e. absurd (true≢false (sym e));
     }
 
 pub returns : goal.returns

@@ -22,8 +22,8 @@ returns c =
     let same : (s.weights.good * 1099511627776 + weight_sum s.weights * s.cost + c.rounded_by.result) * k ≡ constant_sum s * k
     = ap (λ (n : ℕ). (s.weights.good * 1099511627776 + weight_sum s.weights * s.cost + n) * k) c.rounded_by.ensures.0 in
     record {
-      constant = c.requires.left_value.0;
-      proportions = c.requires.left_value.1;
+      constant = c.requires.constant_weights.0;
+      proportions = c.requires.constant_weights.1;
       cost = c.requires.cost_le_scale;
       exact = c.requires.exact.0;
       of_sum = c.requires.exact.1;
@@ -33,16 +33,16 @@ returns c =
     }
 
 pub overflow_mul-added-2 : goal.overflow_mul-added-2
-overflow_mul-added-2 c = omega (arith, c.requires.left_value, (small c.args.s c.args.d c.requires.cost_le_scale c.requires.exact.0 c.requires.exact.1).of_cost)
+overflow_mul-added-2 c = omega (arith, c.requires.constant_weights, (small c.args.s c.args.d c.requires.cost_le_scale c.requires.exact.0 c.requires.exact.1).of_cost)
 
 pub overflow_add-added : goal.overflow_add-added
-overflow_add-added c = omega (arith, c.requires.left_value, (small c.args.s c.args.d c.requires.cost_le_scale c.requires.exact.0 c.requires.exact.1).of_cost)
+overflow_add-added c = omega (arith, c.requires.constant_weights, (small c.args.s c.args.d c.requires.cost_le_scale c.requires.exact.0 c.requires.exact.1).of_cost)
 
 pub overflow_add-added-2 : goal.overflow_add-added-2
-overflow_add-added-2 c = omega (arith, c.requires.left_value, c.rounded_by.ensures.1, (small c.args.s c.args.d c.requires.cost_le_scale c.requires.exact.0 c.requires.exact.1).of_cost)
+overflow_add-added-2 c = omega (arith, c.requires.constant_weights, c.rounded_by.ensures.1, (small c.args.s c.args.d c.requires.cost_le_scale c.requires.exact.0 c.requires.exact.1).of_cost)
 
 pub overflow_mul-result : goal.overflow_mul-result
-overflow_mul-result c = omega (arith, c.requires.left_value, (small c.args.s c.args.d c.requires.cost_le_scale c.requires.exact.0 c.requires.exact.1).marginal)
+overflow_mul-result c = omega (arith, c.requires.constant_weights, (small c.args.s c.args.d c.requires.cost_le_scale c.requires.exact.0 c.requires.exact.1).marginal)
 
 pub overflow_mul-result-2 : goal.overflow_mul-result-2
-overflow_mul-result-2 c = omega (arith, c.requires.left_value, (small c.args.s c.args.d c.requires.cost_le_scale c.requires.exact.0 c.requires.exact.1).bad)
+overflow_mul-result-2 c = omega (arith, c.requires.constant_weights, (small c.args.s c.args.d c.requires.cost_le_scale c.requires.exact.0 c.requires.exact.1).bad)

@@ -13,9 +13,9 @@ constant_of-t-requires c =
     let suits = pre.ready.suits in
     let d = c.reciprocal_at.ensures in
     record {
-      left_value = (pre.left_value, suits.proportions);
+      constant_weights = (pre.constant_weights, suits.proportions);
       cost_le_scale = omega (arith, suits.fits);
-      exact = (d.exact, d.of_sum pre.left_value);
+      exact = (d.exact, d.of_sum pre.constant_weights);
     }
 
 pub constant_row-requires : goal.constant_row-requires
@@ -35,7 +35,7 @@ next_limit-limit-requires c =
     let sizes = shape c.args.plan.now suits.admitted in
     let first : c.loop-g.g < 1000 = omega (arith, c.requires.limited.inside, c.loop-g-test.true, suits.reject1, sizes.reject1_to) in
     record {
-      plan_value = (suits.admitted, first);
+      in_plan = (suits.admitted, first);
       limit_value = c.loop-g.invariant.limit_is;
     }
 

@@ -27,7 +27,7 @@ next_limit-limit-requires c =
     let sizes = shape c.args.plan.now suits.admitted in
     let first : c.loop-g.g < 1000 = omega (arith, c.requires.limited.inside, c.loop-g-test.true, suits.reject1, sizes.reject1_to) in
     record {
-      plan_value = (suits.admitted, first);
+      in_plan = (suits.admitted, first);
       limit_value = c.loop-g.invariant.limit_is;
     }
 

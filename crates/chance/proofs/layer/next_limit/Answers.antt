@@ -6,7 +6,7 @@ use Rattle.chance.proofs.layer.next_limit.Goals as goal
 pub returns-then-limit-eq0 : goal.returns-then-limit-eq0
 returns-then-limit-eq0 c =
     let a = c.args in
-    omega (arith, (promise a.plan.now c.requires.plan_value.0).limit_falls a.y a.g)
+    omega (arith, (promise a.plan.now c.requires.in_plan.0).limit_falls a.y a.g)
 
 pub accept_limit-requires : goal.accept_limit-requires
-accept_limit-requires c = omega (arith, (shape c.args.plan.now c.requires.plan_value.0).thousand_units)
+accept_limit-requires c = omega (arith, (shape c.args.plan.now c.requires.in_plan.0).thousand_units)

@@ -53,8 +53,8 @@ fitted-requires c =
     let a = c.args in
     let ok = sym c.admitted.ensures ∙ c.if-not-admitted.false in
     record {
-      plan_value = (ok, record { some = omega (arith, (shape a.plan.now ok).some_unit); few = omega arith }, omega arith);
-      plan_bound = λ e. omega arith;
+      suits = (ok, record { some = omega (arith, (shape a.plan.now ok).some_unit); few = omega arith }, omega arith);
+      enough = λ e. omega arith;
     }
 
 pub returns : goal.returns

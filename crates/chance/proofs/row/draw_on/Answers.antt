@@ -72,7 +72,7 @@ overflow_add-g-in-loop-b c = omega (arith, c.requires.between)
 
 pub value_at-marginal-requires : goal.value_at-marginal-requires
 value_at-marginal-requires c = record {
-  r2_in_bounds = omega (arith, c.loop-b.invariant.same, c.requires.valued.room);
+  room = omega (arith, c.loop-b.invariant.same, c.requires.valued.room);
   b_lt_r2 = omega (arith, c.loop-b.invariant.at_most, c.requires.between.upto);
 }
 

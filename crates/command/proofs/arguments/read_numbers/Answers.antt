@@ -21,7 +21,7 @@ returns-then-list-n c =
     let l = c.loop-at in
     let a = c.args in
     let told = no_room a.line.now a.start l.list l.n l.at l.invariant c.loop-at-test.true (omega (arith, l.invariant.long, c.if-list-n.true)) in
-    record { value = told.0; by_index = told.1 }
+    record { value = told.0; listed = told.1 }
 
 pub shape_of-list-in-Bad : goal.shape_of-list-in-Bad
 shape_of-list-in-Bad c = c.loop-at.invariant.long ∙ sym c.requires.1
@@ -31,7 +31,7 @@ returns-in-Bad c =
     let l = c.loop-at in
     let a = c.args in
     let told = bad_number a.line.now a.start l.list l.n l.at l.invariant c.loop-at-test.true c.find-end.result c.find-end.ensures (sym c.in-Bad.is ∙ c.read_number.ensures) in
-    record { value = told.0; by_index = told.1 }
+    record { value = told.0; listed = told.1 }
 
 pub bounds-list-n : goal.bounds-list-n
 bounds-list-n c = omega (arith, c.if-list-n.false)
@@ -60,7 +60,7 @@ returns c =
     let l = c.loop-at in
     let a = c.args in
     let told = all_numbers a.line.now a.start l.list l.n l.at l.invariant c.loop-at-test.false in
-    record { value = told.0; by_index = told.1 }
+    record { value = told.0; listed = told.1 }
 
 pub slice_bounds-read_number-count : goal.slice_bounds-read_number-count
 slice_bounds-read_number-count c =

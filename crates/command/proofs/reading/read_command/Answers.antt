@@ -27,7 +27,7 @@ command_of-requires c =
     let short = c.if-line-gt255.false in
     let one_letter = sym c.find.ensures ∙ c.if-find-ne1.false in
     let r = c.read_numbers in
-    let read = good_numbers c.args.line.now short one_letter c.in-Numbers.n r.new.list (sym c.in-Numbers.is ∙ r.ensures.value) r.ensures.by_index in
+    let read = good_numbers c.args.line.now short one_letter c.in-Numbers.n r.new.list (sym c.in-Numbers.is ∙ r.ensures.value) r.ensures.listed in
     (read.0, c.read_numbers.auto.list ∙ c.requires)
 
 pub returns-in-Bad : goal.returns-in-Bad
@@ -41,5 +41,5 @@ returns-in-Numbers c =
     let short = c.if-line-gt255.false in
     let one_letter = sym c.find.ensures ∙ c.if-find-ne1.false in
     let r = c.read_numbers in
-    let read = good_numbers c.args.line.now short one_letter c.in-Numbers.n r.new.list (sym c.in-Numbers.is ∙ r.ensures.value) r.ensures.by_index in
+    let read = good_numbers c.args.line.now short one_letter c.in-Numbers.n r.new.list (sym c.in-Numbers.is ∙ r.ensures.value) r.ensures.listed in
     (read.1 ∙ c.command_of.ensures.0, c.command_of.ensures.1)

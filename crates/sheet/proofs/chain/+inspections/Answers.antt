@@ -9,7 +9,7 @@ use Rattle.sheet.specs.Survey.{tested}
 use Rattle.sheet.proofs.ChainSteps.{newer_chain, newer_units as units_of_newer, none_older, not_none_older, older_by, whole_units}
 use Rattle.sheet.proofs.chain.+inspections.Goals as goal
 
--- where the newer inspections are passed
+-- ---- where the newer inspections are passed
 
 pub returns-then-next-eq0 : goal.returns-then-next-eq0
 returns-then-next-eq0 t c =
@@ -33,7 +33,7 @@ pub inspections-requires : goal.inspections-requires
 inspections-requires t c =
     (omega arith, (c.requires.0, c.requires.1, omega arith, omega (arith, c.end_below-below.ensures, ((promise c.args.plan.now c.requires.1).end_below_is c.args.test (omega arith)).0)))
 
--- where the older ones are
+-- ---- where the older ones are
 
 pub earliest-requires : goal.earliest-requires
 earliest-requires t c =

@@ -5,7 +5,7 @@ use Rattle.sheet.proofs.FreedChain.{left_start, left_in, left_step, left_done}
 use Rattle.sheet.proofs.freeing.free_inspections.Goals as goal
 
 pub loop-left-init : goal.loop-left-init
-loop-left-init c = (left_start c.args.sheet.now c.args.lot c.args.count c.args.newest c.requires.freeing c.requires.newest_value, refl)
+loop-left-init c = (left_start c.args.sheet.now c.args.lot c.args.count c.args.newest c.requires.freeing c.requires.whole_chain, refl)
 
 pub field_of-older-requires : goal.field_of-older-requires
 field_of-older-requires c =
@@ -36,4 +36,4 @@ shape_of-sheet c = c.loop-left.invariant.1
 pub returns : goal.returns
 returns c =
     let done = left_done c.loop-left.invariant.0 c.loop-left-test.false in
-    record { freeing_2 = done.0; sheet_after = done.1 }
+    record { still_freeing = done.0; sheet_after = done.1 }

@@ -10,7 +10,7 @@ free_inspections-requires c =
     let unlinked : c.put_field.new.sheet ≡ unlinked_lot c.args.sheet.now c.args.at c.args.before c.args.answer c.args.c = cc in
     rw (c.units.ensures, unlinked, c.field_of-newest.ensures) (record {
       freeing = still_closing c.args.sheet.now c.args.at c.args.before c.args.answer c.args.c c.requires;
-      newest_value = ap is_some (chain_kept c.args.sheet.now c.args.at c.args.before c.args.answer c.args.c c.requires);
+      whole_chain = ap is_some (chain_kept c.args.sheet.now c.args.at c.args.before c.args.answer c.args.c c.requires);
     })
 
 pub returns : goal.returns
