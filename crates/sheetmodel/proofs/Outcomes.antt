@@ -4,7 +4,7 @@ use mathlib.Core.Path.{◌≡◌, sym, ap, subst, ◌∙◌}
 use mathlib.Core.Logic.{◌⊎◌, inl, inr}
 use mathlib.Core.List.{List}
 use Rattle.plan.specs.Refusal.{Refusal, first_refusal, First, NoneApplies}
-use Rattle.plan.proofs.Refusal.{first_refusals}
+use Rattle.plan.proofs.Refusals.{first_refusals}
 use Rattle.sheetmodel.specs.Calls.{Outcome, outcome}
 
 module _ {R : Type 0} (refused : ℕ → R) (w : List ℕ) (reply : R) (words : List ℕ) where

@@ -8,7 +8,7 @@ use mathlib.Core.List.{List, []}
 use native.Mathlib.Omega.{arith}
 use Rattle.plan.specs.Reply.{refused}
 use Rattle.plan.specs.Refusal.{Refusal, first_refusal}
-use Rattle.plan.proofs.Refusal.{first_refusals}
+use Rattle.plan.proofs.Refusals.{first_refusals}
 use Rattle.plan.proofs.Promise.{counting}
 use Rattle.sheetmodel.specs.declared.reply.Done.TheVariants as done
 use Rattle.sheetmodel.specs.declared.reply.Estimated.TheVariants as estimated
