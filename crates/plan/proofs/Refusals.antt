@@ -12,8 +12,8 @@ use borrow.Author.Rules.{rules}
 use borrow.Author.Tests.{leb-true, ltb-true, eqb-true}
 use Rattle.plan.specs.declared.refusal.Refusal.{Refusal}
 use Rattle.plan.specs.declared.refusal.Refusal.TheVariants as refusal
-use Rattle.plan.specs.Reply.{Reply, granted, refused}
-use Rattle.plan.specs.Refusal.{Row, number, first_refusal, table, before, place, in_order, Applies, First, RefusalLaw, FirstNumber, AppliesNumber, RefusedByNumber, reply_in_numbers, NumberLaw, TableLaw, NoneApplies, FirstRefusal, RefusedExactly}
+use Rattle.plan.specs.Reply.{refused}
+use Rattle.plan.specs.Refusal.{Row, number, first_refusal, table, before, place, in_order, Applies, First, RefusalLaw, FirstNumber, AppliesNumber, reply_in_numbers, NumberLaw, TableLaw, NoneApplies, FirstRefusal, RefusedExactly}
 use Rattle.plan.proofs.Bools.{and_left, and_right}
 
 module _ {A : Type 0} (refuse : Refusal → A) (grant : A) (apart : (m n : Refusal) → refuse m ≡ refuse n → m ≡ n) (not : (n : Refusal) → grant ≡ refuse n → ⊥) (n : Refusal) where
@@ -190,27 +190,64 @@ named n (x ∷ xs) k h = go (eqb n x) refl (named n xs k.1)
 
 the_table : Named table
 unfolding Named
-the_table =
-    ((refusal.Size, refl),
-    ((refusal.Plan, refl),
-    ((refusal.Corrupt, refl),
-    ((refusal.Shares, refl),
-    ((refusal.LotZero, refl),
-    ((refusal.LotOpen, refl),
-    ((refusal.NoLot, refl),
-    ((refusal.Class, refl),
-    ((refusal.Decided, refl),
-    ((refusal.NoUnit, refl),
-    ((refusal.Undecided, refl),
-    ((refusal.Full, refl),
-    ((refusal.HeldBack, refl),
-    ((refusal.TotalsFull, refl),
-    ((refusal.Weights, refl),
-    ((refusal.LotSize, refl),
-    ((refusal.Scratch, refl),
-    ((refusal.SeveralStages, refl),
-    ((refusal.Line, refl),
-    tt)))))))))))))))))))
+the_table = (
+  (refusal.Size, refl),
+  (
+    (refusal.Plan, refl),
+    (
+      (refusal.Corrupt, refl),
+      (
+        (refusal.Shares, refl),
+        (
+          (refusal.LotZero, refl),
+          (
+            (refusal.LotOpen, refl),
+            (
+              (refusal.NoLot, refl),
+              (
+                (refusal.Class, refl),
+                (
+                  (refusal.Decided, refl),
+                  (
+                    (refusal.NoUnit, refl),
+                    (
+                      (refusal.Undecided, refl),
+                      (
+                        (refusal.Full, refl),
+                        (
+                          (refusal.HeldBack, refl),
+                          (
+                            (refusal.TotalsFull, refl),
+                            (
+                              (refusal.Weights, refl),
+                              (
+                                (refusal.LotSize, refl),
+                                (
+                                  (refusal.Scratch, refl),
+                                  (
+                                    (refusal.SeveralStages, refl),
+                                    (
+                                      (refusal.Line, refl),
+                                      tt,
+                                    ),
+                                  ),
+                                ),
+                              ),
+                            ),
+                          ),
+                        ),
+                      ),
+                    ),
+                  ),
+                ),
+              ),
+            ),
+          ),
+        ),
+      ),
+    ),
+  ),
+)
 
 in_the_table : (r : Refusal) → place (number r) < length table
 in_the_table refusal.Size = search rules
@@ -243,7 +280,7 @@ table_law = record {
 -- ---- replies in numbers
 
 module _ (values : List ℕ) (n : ℕ) where
-  to_number : (rows : List Row) → reply_in_numbers rows values ≡ refused n → FirstNumber rows n
+  pub to_number : (rows : List Row) → reply_in_numbers rows values ≡ refused n → FirstNumber rows n
   unfolding first_refusal
   to_number [] e = cc
   to_number (r ∷ rest) e = go r.when refl e (to_number rest)
@@ -253,7 +290,7 @@ module _ (values : List ℕ) (n : ℕ) where
       go true w e' later = inl (w, cc e')
       go false w e' later = inr (w, later e')
 
-  from_number : (rows : List Row) → FirstNumber rows n → reply_in_numbers rows values ≡ refused n
+  pub from_number : (rows : List Row) → FirstNumber rows n → reply_in_numbers rows values ≡ refused n
   unfolding first_refusal
   from_number [] x' = elim x' [ ]
   from_number (r ∷ rest) (inl f) = rw f.0 (ap refused f.1)
