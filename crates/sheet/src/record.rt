@@ -13,6 +13,15 @@ pub struct Record {
     pub tag: u32,
 }
 
+// The places of a record's words.
+pub const VALUE: u32 = 0;
+
+pub const NEXT: u32 = 1;
+
+pub const LINK: u32 = 2;
+
+pub const TAG: u32 = 3;
+
 // How many whole records there are.
 pub fn record_count(sheet: &[u32]) -> usize
     ensures { result ≡ records sheet.now }
@@ -32,10 +41,10 @@ pub fn record_at(sheet: &[u32], j: u32) -> Record
     ensures { result ≡ record_at sheet.now j }
 {
     Record {
-        value: field_of(sheet, j, 0),
-        next: field_of(sheet, j, 1),
-        link: field_of(sheet, j, 2),
-        tag: field_of(sheet, j, 3),
+        value: field_of(sheet, j, VALUE),
+        next: field_of(sheet, j, NEXT),
+        link: field_of(sheet, j, LINK),
+        tag: field_of(sheet, j, TAG),
     }
 }
 
@@ -46,12 +55,12 @@ pub fn put_field(sheet: &mut [u32], j: u32, f: u32, v: u32)
     sheet[(4 * j + f) as usize] = v;
 }
 
-pub fn put_record(sheet: &mut [u32], j: u32, value: u32, next: u32, link: u32, tag: u32)
+pub fn put_record(sheet: &mut [u32], j: u32, r: Record)
     requires { (4 * j + 3 < length sheet.old) × (length sheet.old ≤ greatest_size) }
-    ensures { sheet.new ≡ put_record sheet.old j value next link tag }
+    ensures { sheet.new ≡ put_record sheet.old j r.value r.next r.link r.tag }
 {
-    put_field(sheet, j, 0, value);
-    put_field(sheet, j, 1, next);
-    put_field(sheet, j, 2, link);
-    put_field(sheet, j, 3, tag);
+    put_field(sheet, j, VALUE, r.value);
+    put_field(sheet, j, NEXT, r.next);
+    put_field(sheet, j, LINK, r.link);
+    put_field(sheet, j, TAG, r.tag);
 }

@@ -50,7 +50,7 @@ pub units-requires : goal.units-requires
 units-requires c =
     let k = with_lot c.args.lot c.args.sheet.now c.in_ok-found.found (sym c.in_ok-found.ensures) in
     let decided = sym (ap undecided c.answer_to.ensures) ∙ sym c.goes_on.ensures ∙ c.if-goes_on.false in
-    let counted : c.evidence-c.result ≡ evidence_counts (field c.args.sheet.now (newest c.args.sheet.now c.in_ok-found.found.at) 0) c.in_ok-found.found.counts = rw (sym c.field_of-newest.ensures, sym c.field_of.ensures) c.evidence-c.ensures in
+    let counted : c.evidence-c.result ≡ evidence_counts (field c.args.sheet.now (newest c.args.sheet.now c.in_ok-found.found.at) 0) c.in_ok-found.found.chain.counts = rw (sym c.field_of-newest.ensures, sym c.field_of.ensures) c.evidence-c.ensures in
     rw counted (evidence_few _ _ _ k decided)
 
 pub returns-in_err-found : goal.returns-in_err-found
@@ -62,7 +62,7 @@ pub returns : goal.returns
 returns c =
     let k = with_lot c.args.lot c.args.sheet.now c.in_ok-found.found (sym c.in_ok-found.ensures) in
     let decided = sym (ap undecided c.answer_to.ensures) ∙ sym c.goes_on.ensures ∙ c.if-goes_on.false in
-    let counted : c.evidence-c.result ≡ evidence_counts (field c.args.sheet.now (newest c.args.sheet.now c.in_ok-found.found.at) 0) c.in_ok-found.found.counts = rw (sym c.field_of-newest.ensures, sym c.field_of.ensures) c.evidence-c.ensures in
+    let counted : c.evidence-c.result ≡ evidence_counts (field c.args.sheet.now (newest c.args.sheet.now c.in_ok-found.found.at) 0) c.in_ok-found.found.chain.counts = rw (sym c.field_of-newest.ensures, sym c.field_of.ensures) c.evidence-c.ensures in
     rw (estimate_granted _ _ _ k decided c.if-sheet-gt1.false c.evidence-c.result counted)
     (rw (c.from.ensures, c.from-2.ensures, c.from-3.ensures, c.from-4.ensures, c.units.ensures) refl)
 
