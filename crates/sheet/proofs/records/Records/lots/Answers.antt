@@ -9,7 +9,7 @@ use Rattle.sheetmodel.specs.Read.{serial_at, read_inspections, undecided_before}
 use Rattle.sheet.specs.declared.record.Record.{Record}
 use Rattle.sheet.specs.declared.records.Records.{Records}
 use Rattle.sheet.specs.declared.chain.Chain.{Chain}
-use Rattle.sheet.specs.Survey.{chain_of}
+use Rattle.sheet.specs.Survey.{is_lot, chain_of}
 use Rattle.sheet.proofs.Used.{passed, failed}
 use Rattle.sheet.proofs.LotSteps.{no_lots, lot_read, no_lot, none_left, not_lot, next_lot, chain_units}
 use Rattle.sheet.proofs.OfficeSteps.{count_start, count_one, count_done}
@@ -50,7 +50,7 @@ pub returns-in_err-chain-clause-value : goal.returns-in_err-chain-clause-value
 returns-in_err-chain-clause-value c =
     let r = c.args.self in
     let l = c.loop in
-    let lot = passed _ r.sheet.now l.at c.in_ok-r.r c.in_ok-r.ensures in
+    let lot = passed (is_lot r.first r.sheet.now l.above l.at) r.sheet.now l.at c.in_ok-r.r c.in_ok-r.ensures in
     rw c.from_residual-in_err-chain.ensures
     (sym (l.invariant.1 ∙ next_lot r.first r.sheet.now (stages r.plan.now) c.args.sought l.found (c.record_count-end.result - l.counter) l.above l.at (omega arith) c.if-at-eq0.false
     lot.0 c.in_ok-r.r lot.1 None c.in_err-chain.ensures))
@@ -67,7 +67,7 @@ pub loop-preserved : goal.loop-preserved
 loop-preserved c =
     let r = c.args.self in
     let l = c.loop in
-    let lot = passed _ r.sheet.now l.at c.in_ok-r.r c.in_ok-r.ensures in
+    let lot = passed (is_lot r.first r.sheet.now l.above l.at) r.sheet.now l.at c.in_ok-r.r c.in_ok-r.ensures in
     let v = c.in_ok-chain.chain in
     let left : c.record_count-end.result - l.counter - 1 ≡ c.record_count-end.result - (l.counter + 1) = omega arith in
     let next = next_lot r.first r.sheet.now (stages r.plan.now) c.args.sought l.found (c.record_count-end.result - l.counter) l.above l.at (omega arith) c.if-at-eq0.false
