@@ -24,7 +24,7 @@ pub struct Chain {
 #[derive(Clone, Copy)]
 struct Part {
     chain: Chain,
-    next: u32,
+    next: usize,
 }
 
 impl Chain {
@@ -65,7 +65,7 @@ impl Part {
 
 impl Records<'_> {
     // The record `at`, if it is the inspection of the lot with this serial.
-    fn inspection(self, lot: u32, serial: u32, at: u32) -> Option<Record>
+    fn inspection(self, lot: u32, serial: u32, at: usize) -> Option<Record>
         ensures { result ≡ cond (is_inspection self.entry.first self.entry.sheet.now lot serial at) (Some (record_at self.entry.sheet.now at)) None }
     {
         if !self.is_used(at) {
@@ -83,7 +83,7 @@ impl Records<'_> {
     // `stop` older ones are then left to be tested.
     // Classes come in no order, so that a branch on them is often predicted wrongly. Three sums need none:
     // of the classes, of their halves (1 for a bad or blank unit) and of their thirds (1 for a blank).
-    fn newer_part(self, lot: u32, serial: u32, at: u32, stop: u32) -> Option<Part>
+    fn newer_part(self, lot: u32, serial: u32, at: usize, stop: u32) -> Option<Part>
         requires { (serial ≤ 1000) × (stop < serial) }
         ensures { result ≡ newer_part self.entry.first self.entry.sheet.now lot stop (serial - stop) at no_chain }
     {
@@ -96,7 +96,7 @@ impl Records<'_> {
             sum += r.value;
             halves += r.value / 2;
             blanks += r.value / 3;
-            next = r.next;
+            next = r.next as usize;
         }
         let marginal = sum - 2 * halves;
         let bad = halves - blanks;
@@ -127,7 +127,7 @@ impl Records<'_> {
     // The inspections of a lot from the record `at` on, whose serials fall from `serial` to 1. The units of
     // the `test` oldest ones must be undecided, and those at each stage end below. They are counted before
     // they are tested, so the older ones come first: a call for each number tested, at most eight deep.
-    fn inspections(self, lot: u32, serial: u32, at: u32, test: u32) -> Option<Chain>
+    fn inspections(self, lot: u32, serial: u32, at: usize, test: u32) -> Option<Chain>
         requires { (serial ≤ 1000) × (test < serial) }
         ensures { result ≡ chain_of (tested (stages self.entry.plan.now) test) (read_inspections self.entry.first self.entry.sheet.now lot serial at) }
     {
@@ -142,7 +142,7 @@ impl Records<'_> {
     }
 
     // As `inspections`, where nothing is tested.
-    fn whole_chain(self, lot: u32, serial: u32, at: u32) -> Option<Chain>
+    fn whole_chain(self, lot: u32, serial: u32, at: usize) -> Option<Chain>
         requires { (serial ≤ 1000) × (0 < serial) }
         ensures { result ≡ chain_of (tested (stages self.entry.plan.now) 0) (read_inspections self.entry.first self.entry.sheet.now lot serial at) }
     {
@@ -151,7 +151,7 @@ impl Records<'_> {
 
     // As `inspections`, where no stage ends below `test`. It does not call itself, so that it is compiled into
     // the walk over the lots; most lots come here.
-    fn in_first_stage(self, lot: u32, serial: u32, at: u32, test: u32) -> Option<Chain>
+    fn in_first_stage(self, lot: u32, serial: u32, at: usize, test: u32) -> Option<Chain>
         requires { (serial ≤ 1000) × (0 < test) × (test < serial) × (0 ≡ end_below 0 (stages self.plan.now) test) }
         ensures { result ≡ chain_of (tested (stages self.entry.plan.now) test) (read_inspections self.entry.first self.entry.sheet.now lot serial at) }
     {
@@ -167,7 +167,7 @@ impl Records<'_> {
         if newest == 0 {
             return Some(Chain::none());
         }
-        if !self.is_used(newest) {
+        if !self.is_used(newest as usize) {
             return None;
         }
         let serial = field_of(self.sheet, newest, TAG);
@@ -175,16 +175,16 @@ impl Records<'_> {
             return None;
         }
         if serial == 1 {
-            return self.whole_chain(lot, serial, newest);
+            return self.whole_chain(lot, serial, newest as usize);
         }
         if plan::end_below(self.plan, 0, serial - 1) == 0 {
-            return self.in_first_stage(lot, serial, newest, serial - 1);
+            return self.in_first_stage(lot, serial, newest as usize, serial - 1);
         }
-        self.inspections(lot, serial, newest, serial - 1)
+        self.inspections(lot, serial, newest as usize, serial - 1)
     }
 
     // The record `at`, if it is the free record of this depth.
-    fn free(self, depth: u32, at: u32) -> Option<Record>
+    fn free(self, depth: u32, at: usize) -> Option<Record>
         ensures { result ≡ cond (is_free self.entry.first self.entry.sheet.now depth at) (Some (record_at self.entry.sheet.now at)) None }
     {
         if !self.is_used(at) {
@@ -199,14 +199,14 @@ impl Records<'_> {
     }
 
     // Is the chain of free records from `at` on whole, of this depth?
-    fn is_free_chain(self, depth: u32, at: u32) -> bool
+    fn is_free_chain(self, depth: u32, at: usize) -> bool
         ensures { result ≡ is_some (read_free self.entry.first self.entry.sheet.now depth at) }
     {
         let mut next = at;
         for older in (0..depth).rev() {
             match self.free(older + 1, next) {
                 None => return false,
-                Some(r) => next = r.next,
+                Some(r) => next = r.next as usize,
             }
         }
         next == 0
@@ -220,11 +220,11 @@ impl Records<'_> {
         if at == 0 {
             return Some(0);
         }
-        if !self.is_used(at) {
+        if !self.is_used(at as usize) {
             return None;
         }
         let depth = field_of(self.sheet, at, VALUE);
-        if self.is_free_chain(depth, at) {
+        if self.is_free_chain(depth, at as usize) {
             Some(depth)
         } else {
             None

@@ -36,15 +36,15 @@ pub fn field_of(sheet: &[u32], j: u32, f: usize) -> u32
     sheet[4 * j as usize + f]
 }
 
-pub fn record_at(sheet: &[u32], j: u32) -> Record
+pub fn record_at(sheet: &[u32], j: usize) -> Record
     requires { 4 * j + 3 < length sheet.now }
     ensures { result ≡ record_at sheet.now j }
 {
     Record {
-        value: field_of(sheet, j, VALUE),
-        next: field_of(sheet, j, NEXT),
-        link: field_of(sheet, j, LINK),
-        tag: field_of(sheet, j, TAG),
+        value: sheet[4 * j + VALUE],
+        next: sheet[4 * j + NEXT],
+        link: sheet[4 * j + LINK],
+        tag: sheet[4 * j + TAG],
     }
 }
 

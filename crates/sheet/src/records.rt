@@ -21,9 +21,9 @@ pub struct Records<'a> {
 
 impl Records<'_> {
     // May a chain have this index?
-    pub fn is_used(self, at: u32) -> bool
+    pub fn is_used(self, at: usize) -> bool
         ensures { result ≡ in_use self.entry.first self.entry.sheet.now at }
     {
-        self.first <= at && at < self.sheet[NEXT_UNUSED]
+        self.first as usize <= at && at < self.sheet[NEXT_UNUSED] as usize
     }
 }

@@ -54,7 +54,7 @@ impl Found {
 
 impl Records<'_> {
     // The record `at`, if it is a lot's, with a number above the last one.
-    fn lot(self, above: u32, at: u32) -> Option<Record>
+    fn lot(self, above: u32, at: usize) -> Option<Record>
         ensures { result ≡ cond (is_lot self.entry.first self.entry.sheet.now above at) (Some (record_at self.entry.sheet.now at)) None }
     {
         if !self.is_used(at) {
@@ -86,7 +86,7 @@ impl Records<'_> {
             if at == 0 {
                 return Some(found);
             }
-            let r = self.lot(above, at)?;
+            let r = self.lot(above, at as usize)?;
             let chain = self.lot_inspections(at, r.link)?;
             found = found.with_lot(sought, at, r.value, chain);
             count_lot(held, r.value, chain.counts.units());
