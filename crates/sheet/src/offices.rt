@@ -50,26 +50,14 @@ pub fn count_lot(held: &mut [u32; 16], lot: u32, inspections: u32)
     held[o] = held[o] + (1 + inspections);
 }
 
-// What an office lacks to reach its share, not below 0.
-fn lacking(share: u32, held: u32) -> u32
-    ensures { result ≡ share - held }
-{
-    if held < share {
-        return share - held;
-    }
-    0
-}
-
 // What the offices lack to reach their shares, added up.
 fn all_lacking(sheet: &[u32], held: &[u32; 16]) -> u64
     requires { least_size ≤ length sheet.now }
     ensures { result ≡ added_up offices (λ o. share sheet.now o - word held.now o) }
 {
     let mut sum: u64 = 0;
-    let mut o: usize = 0;
-    while o < OFFICES {
-        sum += lacking(sheet[SHARES_START + o], held[o]) as u64;
-        o += 1;
+    for o in 0..OFFICES {
+        sum += u64::from(sheet[SHARES_START + o].saturating_sub(held[o]));
     }
     sum
 }
