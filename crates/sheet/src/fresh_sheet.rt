@@ -9,8 +9,7 @@ use crate::layout::{
     FIRST_FREE, FIRST_LOT, FIRST_RECORD, NEXT_UNUSED, OFFICES, PLAN_START, SHARES_START,
     STAGE_COUNT,
 };
-use crate::offices::given_shares_fit;
-use crate::size::size_ok;
+use crate::size::{Sheet, size_ok};
 use plan::Refusal;
 
 // The unused stages and the totals stay 0.
@@ -37,7 +36,7 @@ pub fn fresh(sheet: &mut [u32], plan: &[u32], shares: &[u32; 16]) -> Result<(), 
     if !plan::admitted(plan) {
         return Err(Refusal::Plan);
     }
-    if !given_shares_fit(sheet, shares) {
+    if !(Sheet { words: sheet }).given_shares_fit(shares) {
         return Err(Refusal::Shares);
     }
     put_header(sheet, plan, shares);

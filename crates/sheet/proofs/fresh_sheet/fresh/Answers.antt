@@ -1,6 +1,6 @@
 -- `sheet::fresh` meets its contract: the tests are in the order of the table, and the parts written make the header. Assumes nothing.
 use mathlib.Core.Path.{refl, sym, ◌∙◌}
-use Rattle.sheet.proofs.Sizes.{long_enough, short_enough}
+use Rattle.sheet.proofs.Sizes.{long_enough}
 use Rattle.sheet.proofs.FreshOutcome.{wrong_size, not_admitted, no_fit, granted}
 use Rattle.sheet.proofs.fresh_sheet.fresh.Goals as goal
 
@@ -14,12 +14,6 @@ returns-then-not-admitted c =
     let size_is = sym c.size_ok.ensures ∙ c.if-not-size_ok.false in
     let a = c.args in
     rw (not_admitted a.plan.now a.shares.now a.sheet.now size_is (sym c.admitted.ensures ∙ c.if-not-admitted.true)) (record { value = refl; sheet_after = refl })
-
-pub given_shares_fit-requires : goal.given_shares_fit-requires
-given_shares_fit-requires c =
-    let size_is = sym c.size_ok.ensures ∙ c.if-not-size_ok.false in
-    let w = c.args.sheet.now in
-    (long_enough w size_is, short_enough w size_is)
 
 pub returns-then-not-given_shares_fit : goal.returns-then-not-given_shares_fit
 returns-then-not-given_shares_fit c =
