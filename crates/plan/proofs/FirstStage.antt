@@ -1,66 +1,48 @@
--- `completed`, `current`, `end_below` and `end_from` at the first stage of a run of words. Assumes nothing.
+-- `completed`, `end_below` and `end_from` at the first of some stages. Assumes nothing.
 use Prim.Native.Nat.{ℕ, ◌+◌, ◌≤◌, ◌<◌}
-use mathlib.Core.Path.{◌≡◌}
-use mathlib.Core.List.{List}
-use lib.ListN.{length, get_or}
+use mathlib.Core.Bool.{true, false}
+use mathlib.Core.Path.{◌≡◌, refl, ◌∙◌}
+use mathlib.Core.List.{List, ◌∷◌}
 use borrow.Author.Tests.{lt-ltb, le-ltb}
 use Rattle.plan.specs.declared.counts.Counts.{Counts}
 use Rattle.plan.specs.declared.stage.Answer.{Answer}
-use Rattle.plan.specs.declared.stage.Answer.TheVariants.{GoOn}
-use Rattle.plan.specs.declared.ways.StageWay.{StageWay}
-use Rattle.plan.specs.Plan.{stages, first, end_below, end_from}
-use Rattle.plan.specs.Counts.{units}
-use Rattle.plan.specs.Stopping.{completed, at_filled, or_else, at_stage, current, first_answer}
-use Rattle.plan.proofs.Ends.{current_here, current_later}
-use Rattle.plan.proofs.Stages.{after, stages_more, stages_none}
+use Rattle.plan.specs.declared.stage.Answer.TheVariants.{GoOn, Accept, Reject}
+use Rattle.plan.specs.Plan.{Stage, end_below, end_from}
+use Rattle.plan.specs.Stopping.{completed, at_filled, or_else, goes_on, first_answer}
+use Rattle.plan.proofs.Answers.{going_on}
 
-module _ (w : List ℕ) (class before : ℕ) (c : Counts) where
-  pub completed_none : length w < 5 → completed class before (stages w) c ≡ GoOn
-  unfolding first_answer completed
-  completed_none h = rw (stages_none w h)
-
+module _ (class before : ℕ) (s : Stage) (rest : List Stage) (c : Counts) (v : Answer) (is : v ≡ at_filled class c (before + s.size) s) where
   -- v is the answer at the first stage's end
-  pub completed_first : 5 ≤ length w → (v : Answer) → v ≡ at_filled class c (before + get_or w 0 0) (first w) →
-      completed class before (stages w) c ≡ or_else v (completed class (before + get_or w 0 0) (stages (after w)) c)
-  unfolding first first_answer completed
-  completed_first h v e = rw (stages_more w h, e)
+  completed_first : completed class before (s ∷ rest) c ≡ or_else v (completed class (before + s.size) rest c)
+  unfolding first_answer completed
+  completed_first = rw is
 
-module _ (w : List ℕ) (way : StageWay) (before : ℕ) (c : Counts) where
-  pub current_none : length w < 5 → current (at_stage way) before (stages w) c ≡ GoOn
-  unfolding current
-  current_none h = rw (stages_none w h)
+  pub completed_here : goes_on v ≡ false → completed class before (s ∷ rest) c ≡ v
+  unfolding or_else
+  completed_here stops = completed_first ∙ go v stops
+    where
+      go : (a : Answer) → goes_on a ≡ false → or_else a (completed class (before + s.size) rest c) ≡ a
+      go GoOn e = cc
+      go Accept e = refl
+      go Reject e = refl
 
-  pub current_first : 5 ≤ length w → units c ≤ before + get_or w 0 0 →
-      current (at_stage way) before (stages w) c ≡ at_stage way (before + get_or w 0 0) (first w) c
-  unfolding first
-  current_first h l = rw (stages_more w h) (current_here (at_stage way) before (first w) (stages (after w)) c l)
+  pub completed_later : goes_on v ≡ true → completed class before (s ∷ rest) c ≡ completed class (before + s.size) rest c
+  unfolding or_else
+  completed_later on = completed_first ∙ rw (going_on v on)
 
-  pub current_rest : 5 ≤ length w → before + get_or w 0 0 < units c →
-      current (at_stage way) before (stages w) c ≡ current (at_stage way) (before + get_or w 0 0) (stages (after w)) c
-  unfolding first
-  current_rest h l = rw (stages_more w h) (current_later (at_stage way) before (first w) (stages (after w)) c l)
-
-module _ (w : List ℕ) (before y : ℕ) where
-  pub end_none : length w < 5 → end_below before (stages w) y ≡ before
+module _ (before y : ℕ) (s : Stage) (rest : List Stage) where
+  pub end_first : y ≤ before + s.size → end_below before (s ∷ rest) y ≡ before
   unfolding end_below
-  end_none h = rw (stages_none w h)
+  end_first l = rw (le-ltb (before + s.size) y l)
 
-  pub end_first : 5 ≤ length w → y ≤ before + get_or w 0 0 → end_below before (stages w) y ≡ before
-  unfolding end_below first
-  end_first h l = rw (stages_more w h, le-ltb (before + get_or w 0 0) y l)
+  pub end_rest : before + s.size < y → end_below before (s ∷ rest) y ≡ end_below (before + s.size) rest y
+  unfolding end_below
+  end_rest l = rw (lt-ltb (before + s.size) y l)
 
-  pub end_rest : 5 ≤ length w → before + get_or w 0 0 < y → end_below before (stages w) y ≡ end_below (before + get_or w 0 0) (stages (after w)) y
-  unfolding end_below first
-  end_rest h l = rw (stages_more w h, lt-ltb (before + get_or w 0 0) y l)
-
-  pub from_none : length w < 5 → end_from before (stages w) y ≡ before
+  pub from_first : y ≤ before + s.size → end_from before (s ∷ rest) y ≡ before + s.size
   unfolding end_from
-  from_none h = rw (stages_none w h)
+  from_first l = rw (le-ltb (before + s.size) y l)
 
-  pub from_first : 5 ≤ length w → y ≤ before + get_or w 0 0 → end_from before (stages w) y ≡ before + get_or w 0 0
-  unfolding end_from first
-  from_first h l = rw (stages_more w h, le-ltb (before + get_or w 0 0) y l)
-
-  pub from_rest : 5 ≤ length w → before + get_or w 0 0 < y → end_from before (stages w) y ≡ end_from (before + get_or w 0 0) (stages (after w)) y
-  unfolding end_from first
-  from_rest h l = rw (stages_more w h, lt-ltb (before + get_or w 0 0) y l)
+  pub from_rest : before + s.size < y → end_from before (s ∷ rest) y ≡ end_from (before + s.size) rest y
+  unfolding end_from
+  from_rest l = rw (lt-ltb (before + s.size) y l)

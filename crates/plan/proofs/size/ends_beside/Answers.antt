@@ -1,39 +1,38 @@
--- The answers for `plan::ends_beside`; Invariants.antt says what its loop or recursion goes by. Assumes nothing.
+-- The answers for `plan::ends_beside`. Assumes nothing.
 use native.Mathlib.Omega.{arith}
-use mathlib.Core.Path.{refl, sym, ◌∙◌}
+use mathlib.Core.Path.{refl, sym, ap, ◌∙◌}
+use Rattle.plan.specs.Plan.{end_below, end_from}
 use Rattle.plan.proofs.Stages.{total_more}
-use Rattle.plan.proofs.FirstStage.{end_none, end_first, end_rest, from_none, from_first, from_rest}
+use Rattle.plan.proofs.FirstStage.{end_first, end_rest, from_first, from_rest}
 use Rattle.plan.proofs.size.ends_beside.Goals as goal
 
 pub overflow_add-end : goal.overflow_add-end
-overflow_add-end c = omega (arith, c.loop-rest.invariant.0, total_more c.loop-rest.rest.now c.loop-rest-test.true)
+overflow_add-end c = omega (arith, c.loop-stage.invariant.0, total_more _ _ _ c.in-Some.ensures.stages_are)
 
 pub returns-then-y-end : goal.returns-then-y-end
 returns-then-y-end c =
-    let a = c.args in
-    let l = c.loop-rest in
-    let long = c.loop-rest-test.true in record {
-      below = sym (l.invariant.1 ∙ end_first l.rest.now l.below a.y long c.if-y-end.true);
-      from = sym (l.invariant.2 ∙ from_first l.rest.now l.below a.y long c.if-y-end.true);
+    let l = c.loop-stage in
+    let is = c.in-Some.ensures.stages_are in record {
+      below = sym (l.invariant.1 ∙ ap (λ p. end_below l.below p c.args.y) is ∙ end_first l.below c.args.y _ _ c.if-y-end.true);
+      from = sym (l.invariant.2 ∙ ap (λ p. end_from l.below p c.args.y) is ∙ from_first l.below c.args.y _ _ c.if-y-end.true);
     }
 
-pub loop-rest-preserved : goal.loop-rest-preserved
-loop-rest-preserved c =
-    let a = c.args in
-    let l = c.loop-rest in
-    let long = c.loop-rest-test.true in (
-      omega (arith, l.invariant.0, total_more l.rest.now long),
-      l.invariant.1 ∙ end_rest l.rest.now l.below a.y long c.if-y-end.false,
-      l.invariant.2 ∙ from_rest l.rest.now l.below a.y long c.if-y-end.false,
+pub loop-stage-preserved : goal.loop-stage-preserved
+loop-stage-preserved c =
+    let l = c.loop-stage in
+    let is = c.in-Some.ensures.stages_are in (
+      omega (arith, l.invariant.0, total_more _ _ _ is),
+      l.invariant.1 ∙ ap (λ p. end_below l.below p c.args.y) is ∙ end_rest l.below c.args.y _ _ c.if-y-end.false,
+      l.invariant.2 ∙ ap (λ p. end_from l.below p c.args.y) is ∙ from_rest l.below c.args.y _ _ c.if-y-end.false,
     )
 
 pub returns : goal.returns
+unfolding end_below end_from
 returns c =
-    let a = c.args in
-    let l = c.loop-rest in record {
-      below = sym (l.invariant.1 ∙ end_none l.rest.now l.below a.y c.loop-rest-test.false);
-      from = sym (l.invariant.2 ∙ from_none l.rest.now l.below a.y c.loop-rest-test.false);
+    let l = c.loop-stage in record {
+      below = sym (l.invariant.1 ∙ ap (λ p. end_below l.below p c.args.y) c.in_default.ensures);
+      from = sym (l.invariant.2 ∙ ap (λ p. end_from l.below p c.args.y) c.in_default.ensures);
     }
 
-pub loop-rest-init : goal.loop-rest-init
-loop-rest-init c = (omega arith, refl, refl)
+pub loop-stage-init : goal.loop-stage-init
+loop-stage-init c = (omega arith, refl, refl)

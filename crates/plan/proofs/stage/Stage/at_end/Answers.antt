@@ -2,7 +2,7 @@
 use mathlib.Core.Path.{sym, ◌∙◌}
 use Rattle.plan.specs.Stopping.{at_end}
 use Rattle.plan.proofs.Decide.{decided_reject, decided_accept, decided_on}
-use Rattle.plan.proofs.stage.at_end.Goals as goal
+use Rattle.plan.proofs.stage.Stage.at_end.Goals as goal
 
 pub returns-then-rejects : goal.returns-then-rejects
 unfolding at_end
