@@ -10,6 +10,7 @@ use crate::stage::{Answer, Stage, split_first};
 
 // The answer at a stage's end, after `end` units, where every unit after c is of one class. A stage that has
 // ended before c went on.
+#[tactic(auto, using(crate::proofs::Counting::added), unfolding(crate::specs::Stopping::at_filled))]
 fn at_filled(stage: Stage, class: u32, end: u32, c: Counts) -> Answer
     requires { (units c ≤ 1000) × (end ≤ 1000) }
     ensures { result ≡ at_filled class c end stage }
@@ -40,6 +41,7 @@ fn completed(plan: &[u32], class: u32, c: Counts) -> Answer
 }
 
 // The earliest stop's answer to the units c.
+#[tactic(auto, unfolding(crate::specs::Stopping::earliest, crate::specs::Stopping::settled, crate::specs::Stopping::only_reject))]
 pub fn earliest(plan: &[u32], c: Counts) -> Answer
     requires { (total (stages plan.now) ≤ 1000) × (units c ≤ 1000) }
     ensures { result ≡ earliest (stages plan.now) c }

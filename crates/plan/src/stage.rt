@@ -98,6 +98,7 @@ impl Stage {
     }
 
     // The uncurtailed answer at the stage's end.
+    #[tactic(auto, unfolding(crate::specs::Stopping::at_end, crate::specs::Stopping::decide))]
     pub fn at_end(self, c: Counts) -> Answer
         requires { units c ≤ 1000 }
         ensures { result ≡ at_end self c }
