@@ -81,6 +81,7 @@ fn last_step(stage: Stage, end: u32) -> bool
 
 // The rules on stages with acceptance numbers: `first`, which comes after `before` units, and those of `plan` after it. A marked
 // one among them breaks the rule that an acceptance number is below the stage's end.
+#[tactic(auto, using(crate::proofs::Words::next_last, crate::proofs::Words::too_many, crate::proofs::Words::at_last, crate::proofs::Words::step_fails, crate::proofs::Words::step_holds))]
 fn numbered_rules(first: Stage, plan: &[u32], before: u32) -> bool
     requires { before ≤ 1000 }
     ensures { result ≡ numbered_rules before (first ∷ stages plan.now) }
@@ -114,6 +115,7 @@ fn marked_step(stage: Stage, next: Stage) -> bool
 }
 
 // The rules on all stages, `first` and those of `plan`: on the marked ones ahead, and on the others.
+#[tactic(auto, using(crate::proofs::Marked::rules_numbered, crate::proofs::Marked::rules_last, crate::proofs::Marked::too_many, crate::proofs::Marked::no_units, crate::proofs::Marked::step_fails, crate::proofs::Marked::step_holds))]
 fn rules(first: Stage, plan: &[u32]) -> bool
     ensures { result ≡ rules 0 (first ∷ stages plan.now) }
 {

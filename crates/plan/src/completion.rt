@@ -23,6 +23,7 @@ fn at_filled(stage: Stage, class: u32, end: u32, c: Counts) -> Answer
 }
 
 // The uncurtailed verdict where every unit after c is of one class.
+#[tactic(auto, using(crate::proofs::Stages::total_more, crate::proofs::Answers::going_on), unfolding(crate::specs::Plan::total, crate::specs::Stopping::completed, crate::specs::Stopping::first_answer, crate::specs::Stopping::or_else))]
 fn completed(plan: &[u32], class: u32, c: Counts) -> Answer
     requires { (total (stages plan.now) ≤ 1000) × (units c ≤ 1000) }
     ensures { result ≡ completed class 0 (stages plan.now) c }

@@ -5,6 +5,7 @@ ghost use Rattle.plan.specs.Plan.{stages, total, end_below, end_from};
 use crate::stage::split_first;
 
 // S: the units of all stages.
+#[tactic(auto, using(crate::proofs::Stages::total_more, crate::proofs::Stages::total_none), unfolding(crate::specs::Plan::total))]
 pub fn sample_size(plan: &[u32]) -> u32
     requires { total (stages plan.now) ≤ 1000 }
     ensures { result ≡ total (stages plan.now) }
@@ -27,6 +28,7 @@ struct Ends {
 
 // The last stage end below y units, or `before` where there is none, and the first from y units on, or
 // the last where there is none. The stages are those of `plan`; they come after `before` units.
+#[tactic(auto, using(crate::proofs::Stages::total_more), unfolding(crate::specs::Plan::total, crate::specs::Plan::end_below, crate::specs::Plan::end_from))]
 fn ends_beside(plan: &[u32], before: u32, y: u32) -> Ends
     requires { before + total (stages plan.now) ≤ 1000 }
     ensures below { result.below ≡ end_below before (stages plan.now) y }
