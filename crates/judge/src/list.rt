@@ -6,6 +6,7 @@ ghost use Rattle.judge.specs.Judge.{judged};
 use crate::event::event_of;
 use crate::stop::{Stop, before_full_stop, earliest_stop, semi_stop, stop_after, uncurtailed_stop};
 use plan::{StageWay, Way};
+use std::fmt;
 
 // The stops of the four ways, and the event at full's stop.
 #[derive(Clone, Copy)]
@@ -15,6 +16,20 @@ pub struct Judgement {
     pub full: Stop,
     pub earliest: Stop,
     pub event: u32,
+}
+
+// The stop of each way and the event, in 01's numbers.
+impl fmt::Display for Judgement {
+    fn fmt<W: fmt::Write>(&self, f: &mut fmt::Formatter<W>) -> fmt::Result {
+        let Judgement {
+            uncurtailed,
+            semi,
+            full,
+            earliest,
+            event,
+        } = self;
+        write!(f, "{uncurtailed} {semi} {full} {earliest} {event}")
+    }
 }
 
 #[derive(Clone, Copy)]

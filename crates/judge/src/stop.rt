@@ -10,12 +10,23 @@ ghost use Rattle.judge.specs.Run.{goes_on, Between, BeforeStop, semi_stop};
 
 use crate::run::{count_run, half};
 use plan::{Answer, Counts, StageWay, Way};
+use std::fmt;
 
 // The answer and the units at the stop; GoOn and no units where the way does not stop.
 #[derive(Clone, Copy)]
 pub struct Stop {
     pub answer: Answer,
     pub counts: Counts,
+}
+
+// The units and the answer, in 01's numbers.
+impl fmt::Display for Stop {
+    fn fmt<W: fmt::Write>(&self, f: &mut fmt::Formatter<W>) -> fmt::Result {
+        let (counts, answer) = (self.counts, self.answer);
+        let units = counts.good as u64 + counts.marginal as u64 + counts.bad as u64;
+        let state = plan::state(answer);
+        write!(f, "{units} {state}")
+    }
 }
 
 fn no_stop() -> Stop
