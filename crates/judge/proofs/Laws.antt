@@ -27,7 +27,7 @@ use Rattle.plan.proofs.Answers.{reject_stops}
 use Rattle.plan.proofs.Promise.{shape, one_stage, promise, ways}
 use Rattle.plan.proofs.Sample.{classing}
 use Rattle.plan.proofs.Blanks.{blank_laws}
-use Rattle.plan.proofs.Refusal.{first_refusals, refusal_law}
+use Rattle.plan.proofs.Refusals.{first_refusals, refusal_law}
 use Rattle.judge.specs.declared.stop.Stop.{Stop}
 use Rattle.judge.specs.declared.list.Judged.{Judged}
 use Rattle.judge.specs.declared.list.Judged.TheVariants.{Refused, Stops as StoppedList}

@@ -14,6 +14,10 @@ units c = c.good + c.marginal + c.bad
 abbrev pub no_units : Counts
 no_units = record { good = 0; marginal = 0; bad = 0 }
 
+-- the units of both
+abbrev pub both : Counts → Counts → Counts
+both c d = record { good = c.good + d.good; marginal = c.marginal + d.marginal; bad = c.bad + d.bad }
+
 -- n units more of one class; every class but 0 and 2 counts as marginal
 unfoldable pub add_units : ℕ → ℕ → Counts → Counts
 add_units zero n c = record { good = c.good + n; marginal = c.marginal; bad = c.bad }

@@ -1,5 +1,5 @@
 -- The four ways to stop. Document 01, "Four ways to stop".
-use Rattle.std.specs.Prelude.{ℕ, ◌+◌, ◌-◌, Bool, not, cond, ◌&&◌, ◌||◌, List, [], ◌∷◌, leb, ltb, eqb}
+use Rattle.std.specs.Prelude.{ℕ, ◌+◌, ◌-◌, Bool, true, false, not, cond, ◌&&◌, ◌||◌, List, [], ◌∷◌, leb, ltb, eqb}
 use Rattle.plan.specs.declared.counts.Counts.{Counts}
 use Rattle.plan.specs.declared.stage.Answer.{Answer}
 use Rattle.plan.specs.declared.stage.Answer.TheVariants.{GoOn, Accept, Reject}
@@ -15,6 +15,11 @@ abbrev pub state : Answer → ℕ
 state GoOn = 0
 state Accept = 1
 state Reject = 2
+
+abbrev pub goes_on : Answer → Bool
+goes_on GoOn = true
+goes_on Accept = false
+goes_on Reject = false
 
 -- the answer a, or b where a goes on
 unfoldable pub or_else : Answer → Answer → Answer

@@ -5,7 +5,7 @@ ghost use Rattle.plan.specs.Counts.{units};
 ghost use Rattle.plan.specs.Plan.{stages, first, total};
 ghost use Rattle.plan.specs.Stopping.{at_filled, completed, earliest};
 
-use crate::counts::{Counts, add_units, units};
+use crate::counts::Counts;
 use crate::stage::{Answer, at_end};
 
 // The answer at the first stage's end, after `end` units, where every unit after c is of one class.
@@ -14,11 +14,11 @@ fn at_filled(plan: &[u32], class: u32, end: u32, c: Counts) -> Answer
     requires { (5 ≤ length plan.now) × (units c ≤ 1000) × (end ≤ 1000) }
     ensures { result ≡ at_filled class c end (first plan.now) }
 {
-    let y = units(c);
+    let y = c.units();
     if end < y {
         return Answer::GoOn;
     }
-    at_end(plan, add_units(class, end - y, c))
+    at_end(plan, c.with(class, end - y))
 }
 
 // The uncurtailed verdict where every unit after c is of one class. The stages left are those of

@@ -1,57 +1,66 @@
 // The units of each class so far.
 ghost use Rattle.std.specs.Prelude.{◌≡◌, ◌+◌, ◌≤◌};
-ghost use Rattle.plan.specs.Counts.{units, no_units, add_units};
+ghost use Rattle.plan.specs.Counts.{units, no_units, add_units, both};
+
+use std::ops::Add;
 
 // The highest class that a unit may have.
 pub const HIGHEST_CLASS: u32 = 3;
 
-#[derive(Clone, Copy)]
+#[derive(Clone, Copy, Debug, PartialEq, Eq)]
 pub struct Counts {
     pub good: u32,
     pub marginal: u32,
     pub bad: u32,
 }
 
-pub fn no_units() -> Counts
-    ensures { result ≡ no_units }
-{
-    Counts {
-        good: 0,
-        marginal: 0,
-        bad: 0,
+impl Counts {
+    pub fn none() -> Counts
+        ensures { result ≡ no_units }
+    {
+        Counts {
+            good: 0,
+            marginal: 0,
+            bad: 0,
+        }
+    }
+
+    // How many units.
+    pub fn units(self) -> u32
+        requires { units self ≤ 1000 }
+        ensures { result ≡ units self }
+    {
+        self.good + self.marginal + self.bad
+    }
+
+    // n units more of one class. Every class but good (0) and bad (2) counts as marginal.
+    pub fn with(self, class: u32, n: u32) -> Counts
+        requires { units self + n ≤ 4294967295 }
+        ensures { result ≡ add_units class n self }
+    {
+        let mut more = self;
+        match class {
+            0 => more.good += n,
+            2 => more.bad += n,
+            _ => more.marginal += n,
+        }
+        more
     }
 }
 
-// How many units.
-pub fn units(c: Counts) -> u32
-    requires { units c ≤ 1000 }
-    ensures { result ≡ units c }
-{
-    c.good + c.marginal + c.bad
-}
+impl Add for Counts {
+    type Output = Counts;
 
-// n units more of one class. Every class but good (0) and bad (2) counts as marginal.
-pub fn add_units(class: u32, n: u32, c: Counts) -> Counts
-    requires { units c + n ≤ 4294967295 }
-    ensures { result ≡ add_units class n c }
-{
-    if class == 0 {
-        return Counts {
-            good: c.good + n,
-            marginal: c.marginal,
-            bad: c.bad,
-        };
-    }
-    if class == 2 {
-        return Counts {
-            good: c.good,
-            marginal: c.marginal,
-            bad: c.bad + n,
-        };
-    }
-    Counts {
-        good: c.good,
-        marginal: c.marginal + n,
-        bad: c.bad,
+    ghost can_add = { λ c d. units c + units d ≤ 4294967295 };
+
+    ghost add_gives = { λ c d r. r ≡ both c d };
+
+    // The units of both.
+    fn add(self, other: Counts) -> Counts {
+        Counts {
+            good: self.good + other.good,
+            marginal: self.marginal + other.marginal,
+            bad: self.bad + other.bad,
+        }
     }
 }

@@ -3,7 +3,7 @@
 ghost use Rattle.std.specs.Prelude.{◌≡◌, ◌+◌, ◌≤◌, length};
 ghost use Rattle.plan.specs.Counts.{units};
 ghost use Rattle.plan.specs.Plan.{first, marked};
-ghost use Rattle.plan.specs.Stopping.{state, rejects, accepts, at_end};
+ghost use Rattle.plan.specs.Stopping.{state, goes_on, rejects, accepts, at_end};
 
 use crate::counts::Counts;
 
@@ -11,21 +11,29 @@ use crate::counts::Counts;
 const NOT_PERMITTED: u32 = 4294967295;
 
 // What a stopping rule answers to the units so far.
-#[derive(Clone, Copy)]
+#[derive(Clone, Copy, Debug, PartialEq, Eq)]
 pub enum Answer {
     GoOn,
     Accept,
     Reject,
 }
 
-// The number of a state: 0 undecided, 1 accepted, 2 rejected.
-pub fn state(a: Answer) -> u32
-    ensures { result ≡ state a }
-{
-    match a {
-        Answer::GoOn => 0,
-        Answer::Accept => 1,
-        Answer::Reject => 2,
+impl Answer {
+    // The number of the state: 0 undecided, 1 accepted, 2 rejected.
+    pub fn number(self) -> u32
+        ensures { result ≡ state self }
+    {
+        match self {
+            Answer::GoOn => 0,
+            Answer::Accept => 1,
+            Answer::Reject => 2,
+        }
+    }
+
+    pub fn goes_on(self) -> bool
+        ensures { result ≡ goes_on self }
+    {
+        matches!(self, Answer::GoOn)
     }
 }
 

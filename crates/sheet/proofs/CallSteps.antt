@@ -13,7 +13,7 @@ use Rattle.plan.specs.Counts.{counts, units}
 use Rattle.plan.specs.Blanks.{blanks}
 use Rattle.plan.specs.Stopping.{earliest}
 use Rattle.plan.specs.Refusal.{Refusal, First, NoneApplies}
-use Rattle.plan.proofs.Refusal.{first_append, first_after, none_append}
+use Rattle.plan.proofs.Refusals.{first_append, first_after, none_append}
 use Rattle.sheetmodel.specs.declared.reply.Done.{Done}
 use Rattle.sheetmodel.specs.declared.reply.Done.TheVariants as done
 use Rattle.sheetmodel.specs.declared.reply.Looked.TheVariants as looked

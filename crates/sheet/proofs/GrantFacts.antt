@@ -5,7 +5,7 @@ use mathlib.Core.Logic.{◌⊎◌, inl, inr}
 use mathlib.Core.List.{List}
 use native.Mathlib.Omega.{arith}
 use Rattle.plan.specs.Refusal.{Refusal, First, NoneApplies}
-use Rattle.plan.proofs.Refusal.{refused_exactly, first_refusals}
+use Rattle.plan.proofs.Refusals.{refused_exactly, first_refusals}
 use Rattle.sheet.specs.declared.granting.Grant.{Grant}
 use Rattle.sheet.specs.declared.granting.Grant.TheVariants.{Refused, Record}
 use Rattle.sheet.specs.Granting.{grant_by}

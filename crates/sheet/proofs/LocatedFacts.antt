@@ -8,7 +8,7 @@ use mathlib.Core.List.{List, []}
 use native.Mathlib.Omega.{arith}
 use borrow.Author.Tests.{not-false}
 use Rattle.plan.specs.Refusal.{Refusal, First, NoneApplies}
-use Rattle.plan.proofs.Refusal.{refused_exactly, first_refusals, first_append}
+use Rattle.plan.proofs.Refusals.{refused_exactly, first_refusals, first_append}
 use Rattle.sheet.specs.declared.survey.Found.{Found}
 use Rattle.sheet.specs.declared.survey.Surveyed.TheVariants.{Corrupt, Intact}
 use Rattle.sheet.specs.declared.locating.Located.{Located}

@@ -12,9 +12,10 @@ use Rattle.plan.specs.Plan.{Stage, stages, admitted}
 use Rattle.plan.specs.Counts.{counts, no_units, add_units}
 use Rattle.plan.specs.Refusal.{NoneApplies}
 use Rattle.plan.proofs.Promise.{counting}
+use Rattle.std.specs.declared.result.Result.{Result}
+use Rattle.std.specs.declared.result.Result.TheVariants.{Ok}
+use Rattle.plan.specs.declared.refusal.Refusal.{Refusal}
 use Rattle.sheetmodel.specs.declared.reply.Estimate.{Estimate}
-use Rattle.sheetmodel.specs.declared.reply.Estimated.{Estimated}
-use Rattle.sheetmodel.specs.declared.reply.Estimated.TheVariants as estimated
 use Rattle.sheetmodel.specs.Layout.{plan_words}
 use Rattle.sheetmodel.specs.Contents.{Contents, history, find}
 use Rattle.sheetmodel.specs.Read.{read}
@@ -52,12 +53,12 @@ module _ (n : ℕ) (w : List ℕ) where
   inspected (size, (intact, (found, (decided, rest)))) =
       rw (its_history (find n (contents w).lots)) (has_unit (plan_words w) (intact_plan (read w) refl intact) _ decided)
 
-  granted : (e : Estimate) → (estimate n w).reply ≡ estimated.Estimate e → Fractions e
+  granted : (e : Estimate) → (estimate n w).reply ≡ Ok e → Fractions e
   unfolding estimate
   granted =
       let its : Estimate = estimate_of (stages (plan_words w)) (history (lot n w)) in
-      by_rows estimated.Refused w (estimated.Estimate its) w
-      (λ (o : Outcome Estimated). (e : Estimate) → o.reply ≡ estimated.Estimate e → Fractions e)
+      by_rows w its w
+      (λ (o : Outcome (Result Estimate Refusal)). (e : Estimate) → o.reply ≡ Ok e → Fractions e)
       (λ m e q. let z : ◌≡◌ {A = ℕ} 0 1 = cc in absurd (omega arith))
       (estimate_rows n w)
       (λ none e q. let same : its ≡ e = cc in subst Fractions same (fractions (stages (plan_words w)) (history (lot n w)) (inspected none)))

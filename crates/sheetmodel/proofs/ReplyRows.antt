@@ -7,12 +7,12 @@ use mathlib.Core.Option.{Option, none, some, map, get_or}
 use mathlib.Core.List.{List, []}
 use native.Mathlib.Omega.{arith}
 use Rattle.plan.specs.Reply.{refused}
-use Rattle.plan.specs.Refusal.{Refusal, first_refusal}
-use Rattle.plan.proofs.Refusal.{first_refusals}
+use Rattle.plan.specs.declared.refusal.Refusal.{Refusal}
+use Rattle.plan.specs.declared.refusal.Refusal.TheVariants as refusal
+use Rattle.plan.specs.Refusal.{Row, number, first_refusal}
+use Rattle.plan.proofs.Refusals.{first_refusals}
 use Rattle.plan.proofs.Promise.{counting}
-use Rattle.sheetmodel.specs.declared.reply.Done.TheVariants as done
-use Rattle.sheetmodel.specs.declared.reply.Estimated.TheVariants as estimated
-use Rattle.sheetmodel.specs.declared.reply.Looked.TheVariants as looked
+use Rattle.std.specs.declared.result.Result.TheVariants.{Err}
 use Rattle.sheetmodel.specs.Layout.{size_ok, first_record}
 use Rattle.sheetmodel.specs.Contents.{Lot, Contents, history, find}
 use Rattle.sheetmodel.specs.Read.{read}
@@ -35,18 +35,18 @@ its_history (some l) = refl
 module _ (w : List ℕ) where
   replies : (c : Call) → (call c w).reply ≡ reply_on w c
   unfolding open_lot open_rows inspect inspect_rows strike strike_rows close close_rows look look_rows
-  replies (opening n) = reply_by_rows done_reply done.Refused refused (λ m. refl) w done.Ok _ (open_rows n w)
-  replies (inspecting n c) = reply_by_rows done_reply done.Refused refused (λ m. refl) w done.Ok _ (inspect_rows n c w)
-  replies (striking n) = reply_by_rows done_reply done.Refused refused (λ m. refl) w done.Ok _ (strike_rows n w)
-  replies (closing n) = reply_by_rows done_reply done.Refused refused (λ m. refl) w done.Ok _ (close_rows n w)
+  replies (opening n) = reply_by_rows done_reply w tt _ (open_rows n w)
+  replies (inspecting n c) = reply_by_rows done_reply w tt _ (inspect_rows n c w)
+  replies (striking n) = reply_by_rows done_reply w tt _ (strike_rows n w)
+  replies (closing n) = reply_by_rows done_reply w tt _ (close_rows n w)
   replies (looking n) =
-      reply_by_rows look_reply looked.Refused refused (λ m. refl) w (looked.Shown _) w (look_rows n w) ∙
+      reply_by_rows look_reply w _ w (look_rows n w) ∙
       rw (its_history (find n (contents w).lots), counting.length_of (classes_in (standing n w)))
 
   estimates : (n : ℕ) → (estimate n w).reply ≡ estimate_on w n
   unfolding estimate estimate_rows
   estimates n =
-      reply_by_rows (λ r. r) estimated.Refused estimated.Refused (λ m. refl) w (estimated.Estimate _) w (estimate_rows n w) ∙ rw (its_history (find n (contents w).lots))
+      reply_by_rows (λ r. r) w _ w (estimate_rows n w) ∙ rw (its_history (find n (contents w).lots))
 
   pub by_rows : ByRows w
   by_rows = record { replies = replies; estimates = estimates }
@@ -56,17 +56,17 @@ module _ {p w : List ℕ} {s : Contents} (i : Intact p w s) where
   read_intact = (reads_a_sheet w s).1 (i.fit, i.holds)
 
   -- 1 and 3 do not apply
-  behind : {A : Type 0} (refuse : ℕ → A) (others : List Refusal) (g : A) → first_refusal refuse (sheet_rows w others) g ≡ first_refusal refuse others g
+  behind : {A : Type 0} (refuse : Refusal → A) (others : List Row) (g : A) → first_refusal refuse (sheet_rows w others) g ≡ first_refusal refuse others g
   behind {A} refuse others g =
       let size : not (size_ok w) ≡ false = rw i.size in
       let whole : corrupt w ≡ false = rw read_intact in
-      first_refusals.passes A refuse (row 1 (not (size_ok w))) _ g size ∙ first_refusals.passes A refuse (row 3 (corrupt w)) others g whole
+      first_refusals.passes A refuse (row refusal.Size (not (size_ok w))) _ g size ∙ first_refusals.passes A refuse (row refusal.Corrupt (corrupt w)) others g whole
 
   pub reply_is : (c : Call) → (call c w).reply ≡ reply_by p (map history (find (lot_of c) s.lots)) (room_for (lot_of c) w) c
-  reply_is c = (by_rows w).replies c ∙ behind refused _ _ ∙ rw (read_intact, i.plan)
+  reply_is c = (by_rows w).replies c ∙ behind (λ r. refused (number r)) _ _ ∙ rw (read_intact, i.plan)
 
   pub estimate_is : (n : ℕ) → (estimate n w).reply ≡ estimate_by p (map history (find n s.lots))
-  estimate_is n = (by_rows w).estimates n ∙ behind estimated.Refused _ _ ∙ rw (read_intact, i.plan)
+  estimate_is n = (by_rows w).estimates n ∙ behind Err _ _ ∙ rw (read_intact, i.plan)
 
 pub intact_of : {p w : List ℕ} {terms : Terms} {H : Histories} (inv : Inv first_record p terms w H) → Intact p w inv.contents
 intact_of inv = record { size = size_is (omega arith) inv; plan = inv.plan_is; holds = inv.holds; fit = inv.fit }

@@ -2,10 +2,11 @@
 use Rattle.std.specs.Prelude.{ℕ, ◌+◌, ◌-◌, ◌≤◌, ◌≡◌, ◌≢◌, cond, List, [], ◌∷◌, length, eqb}
 use Rattle.plan.specs.Plan.{Stage, stages}
 use Rattle.plan.specs.Counts.{counts}
-use Rattle.plan.specs.Refusal.{Refusal}
+use Rattle.std.specs.declared.result.Result.{Result}
+use Rattle.std.specs.declared.result.Result.TheVariants.{Ok}
+use Rattle.plan.specs.declared.refusal.Refusal.{Refusal}
+use Rattle.plan.specs.Refusal.{Row}
 use Rattle.sheetmodel.specs.declared.reply.Estimate.{Estimate}
-use Rattle.sheetmodel.specs.declared.reply.Estimated.{Estimated}
-use Rattle.sheetmodel.specs.declared.reply.Estimated.TheVariants as estimated
 use Rattle.sheetmodel.specs.Layout.{plan_words}
 use Rattle.sheetmodel.specs.Contents.{history}
 use Rattle.sheetmodel.specs.Rows.{lot_rows, estimate_own}
@@ -24,13 +25,13 @@ frequencies u = record { good = (counts u).good; marginal = (counts u).marginal;
 abbrev pub estimate_of : List Stage → List ℕ → Estimate
 estimate_of p h = frequencies (evidence h)
 
-unfoldable pub estimate_rows : ℕ → List ℕ → List Refusal
+unfoldable pub estimate_rows : ℕ → List ℕ → List Row
 estimate_rows n w = sheet_rows w (lot_rows (standing n w) (estimate_own (plan_words w) (standing n w)))
 
 -- estimate writes nothing
-unfoldable pub estimate : ℕ → List ℕ → Outcome Estimated
+unfoldable pub estimate : ℕ → List ℕ → Outcome (Result Estimate Refusal)
 estimate n w =
-    outcome estimated.Refused (estimate_rows n w) w (estimated.Estimate (estimate_of (stages (plan_words w)) (history (lot n w)))) w
+    outcome (estimate_rows n w) w (estimate_of (stages (plan_words w)) (history (lot n w))) w
 
 -- ---- laws, proved in proofs/Estimate.antt
 
@@ -41,7 +42,7 @@ pub record Fractions (e : Estimate) : Type 0 where
 
 pub record EstimateLaws : Type 0 where
   -- every estimate that is granted, on any words
-  pub granted : (n : ℕ) (w : List ℕ) (e : Estimate) → (estimate n w).reply ≡ estimated.Estimate e → Fractions e
+  pub granted : (n : ℕ) (w : List ℕ) (e : Estimate) → (estimate n w).reply ≡ Ok e → Fractions e
   -- one unit: 1 over 1 for its class, and 0 for the other two; every class but 0 and 2 is marginal
   pub one_good : (p : List Stage) → estimate_of p (0 ∷ []) ≡ record { good = 1; marginal = 0; bad = 0; over = 1 }
   pub one_marginal : (p : List Stage) (x : ℕ) → x ≢ 0 → x ≢ 2 → estimate_of p (x ∷ []) ≡ record { good = 0; marginal = 1; bad = 0; over = 1 }

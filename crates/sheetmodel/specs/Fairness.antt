@@ -2,10 +2,10 @@
 -- its share gets neither 11 nor 19, whatever others did. Statements alone; proofs/Fairness.antt proves them.
 use Rattle.std.specs.Prelude.{ℕ, ◌≤◌, ◌<◌, ◌≡◌, ◌≢◌, List, length}
 use Rattle.std.proofs.Math.Option.{Option}
-use Rattle.sheetmodel.specs.declared.reply.Done.TheVariants.{Ok}
 use Rattle.sheetmodel.specs.declared.reply.Totals.{Totals}
 use Rattle.sheetmodel.specs.Layout.{offices, share}
 use Rattle.sheetmodel.specs.Offices.{office, held, all_lacking, spare}
+use Rattle.std.specs.declared.result.Result.TheVariants.{Ok}
 use Rattle.plan.specs.Reply.{refused}
 use Rattle.sheetmodel.specs.Calls.{contents, fresh}
 use Rattle.sheetmodel.specs.History.{Call, call, run}
@@ -33,5 +33,5 @@ FairFromThereOn = (p shares w : List ℕ) (standing : ℕ → Option (List ℕ))
 
 -- on a fresh sheet that is from the first call on
 abbrev pub FairOnAFreshSheet : Type 0
-FairOnAFreshSheet = (p shares w : List ℕ) → length shares ≡ offices → (fresh p shares w).reply ≡ Ok → (cs : List Call) →
+FairOnAFreshSheet = (p shares w : List ℕ) → length shares ≡ offices → (fresh p shares w).reply ≡ Ok tt → (cs : List Call) →
     Fair (after p shares w cs).words

@@ -3,10 +3,9 @@
 use Rattle.std.specs.Prelude.{ℕ, zero, suc, ◌+◌, ◌*◌, ◌≤◌, ◌≡◌, ◌↔◌, Bool, true, false, cond, ◌&&◌, List, [], ◌∷◌, length, leb, ltb, eqb}
 use Rattle.std.proofs.Math.Option.{Option, none, some}
 use Rattle.plan.specs.declared.stage.Answer.{Answer}
-use Rattle.plan.specs.declared.stage.Answer.TheVariants.{GoOn, Accept, Reject}
 use Rattle.plan.specs.Plan.{Stage, stages, admitted}
 use Rattle.plan.specs.Counts.{counts}
-use Rattle.plan.specs.Stopping.{earliest}
+use Rattle.plan.specs.Stopping.{goes_on, earliest}
 use Rattle.sheetmodel.specs.Layout.{word, field, next, newest, records, next_unused, first_lot, first_free, first_record, plan_words, unused_stages, share, closed_lots, closed_units, free_tag, most_closed}
 use Rattle.plan.specs.Sample.{highest_class}
 use Rattle.sheetmodel.specs.Offices.{shares_fit}
@@ -63,9 +62,7 @@ module _ (start : ℕ) (w : List ℕ) where
 
 -- no inspection after the earliest stop: the inspections before each are undecided
 abbrev pub undecided : Answer → Bool
-undecided GoOn = true
-undecided Accept = false
-undecided Reject = false
+undecided = goes_on
 
 abbrev pub undecided_before : List Stage → List Inspection → Bool
 undecided_before p [] = true

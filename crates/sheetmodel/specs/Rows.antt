@@ -3,15 +3,17 @@
 use Rattle.std.specs.Prelude.{ℕ, Bool, true, false, not, List, [], ◌∷◌, length, ltb, eqb}
 use Rattle.std.proofs.Math.Option.{Option, none, some, get_or}
 use Rattle.plan.specs.declared.stage.Answer.{Answer}
-use Rattle.plan.specs.Refusal.{Refusal}
+use Rattle.plan.specs.declared.refusal.Refusal.{Refusal}
+use Rattle.plan.specs.declared.refusal.Refusal.TheVariants as refusal
+use Rattle.plan.specs.Refusal.{Row}
 use Rattle.plan.specs.Plan.{stages}
 use Rattle.plan.specs.Counts.{counts}
 use Rattle.plan.specs.Stopping.{earliest}
 use Rattle.plan.specs.Sample.{highest_class}
 use Rattle.sheetmodel.specs.Read.{undecided}
 
-abbrev pub row : ℕ → Bool → Refusal
-row n when = record { number = n; when = when }
+abbrev pub row : Refusal → Bool → Row
+row r when = record { refusal = r; when = when }
 
 abbrev pub is_some : {A : Type 0} → Option A → Bool
 is_some none = false
@@ -26,31 +28,31 @@ answer_to p x = earliest (stages p) (counts (classes_in x))
 
 -- ---- the own rows
 
-abbrev pub open_own : ℕ → Option (List ℕ) → List Refusal
-open_own n x = row 4 (eqb n 0) ∷ row 5 (is_some x) ∷ []
+abbrev pub open_own : ℕ → Option (List ℕ) → List Row
+open_own n x = row refusal.LotZero (eqb n 0) ∷ row refusal.LotOpen (is_some x) ∷ []
 
--- every other call on a lot has row 6 before these
-abbrev pub lot_rows : Option (List ℕ) → List Refusal → List Refusal
-lot_rows x rest = row 6 (not (is_some x)) ∷ rest
+-- every other call on a lot has row refusal.NoLot before these
+abbrev pub lot_rows : Option (List ℕ) → List Row → List Row
+lot_rows x rest = row refusal.NoLot (not (is_some x)) ∷ rest
 
-abbrev pub inspect_own : List ℕ → Option (List ℕ) → ℕ → List Refusal
-inspect_own p x c = row 7 (ltb highest_class c) ∷ row 8 (not (undecided (answer_to p x))) ∷ []
+abbrev pub inspect_own : List ℕ → Option (List ℕ) → ℕ → List Row
+inspect_own p x c = row refusal.Class (ltb highest_class c) ∷ row refusal.Decided (not (undecided (answer_to p x))) ∷ []
 
-abbrev pub strike_own : Option (List ℕ) → List Refusal
-strike_own x = row 9 (eqb (length (classes_in x)) 0) ∷ []
+abbrev pub strike_own : Option (List ℕ) → List Row
+strike_own x = row refusal.NoUnit (eqb (length (classes_in x)) 0) ∷ []
 
-abbrev pub close_own : List ℕ → Option (List ℕ) → List Refusal
-close_own p x = row 10 (undecided (answer_to p x)) ∷ []
+abbrev pub close_own : List ℕ → Option (List ℕ) → List Row
+close_own p x = row refusal.Undecided (undecided (answer_to p x)) ∷ []
 
-abbrev pub estimate_own : List ℕ → Option (List ℕ) → List Refusal
-estimate_own p x = row 10 (undecided (answer_to p x)) ∷ row 15 (ltb 1 (length (stages p))) ∷ []
+abbrev pub estimate_own : List ℕ → Option (List ℕ) → List Row
+estimate_own p x = row refusal.Undecided (undecided (answer_to p x)) ∷ row refusal.SeveralStages (ltb 1 (length (stages p))) ∷ []
 
 -- ---- the rows that other lots matter through
 
 -- a record is needed: none is left, or the shares deny one
-abbrev pub record_rows : Bool → Bool → List Refusal
-record_rows full held_back = row 11 full ∷ row 19 held_back ∷ []
+abbrev pub record_rows : Bool → Bool → List Row
+record_rows full held_back = row refusal.Full full ∷ row refusal.HeldBack held_back ∷ []
 
 -- a lot is closed
-abbrev pub totals_rows : Bool → List Refusal
-totals_rows full = row 12 full ∷ []
+abbrev pub totals_rows : Bool → List Row
+totals_rows full = row refusal.TotalsFull full ∷ []

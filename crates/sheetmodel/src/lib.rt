@@ -3,4 +3,4 @@
 
 mod reply;
 
-pub use reply::{Done, Estimate, Estimated, Looked, Shown, Tallied, Totals};
+pub use reply::{Estimate, Shown, Totals};

@@ -1,15 +1,8 @@
-// What the calls reply. specs/Reply.antt has document 01's number and values for each case.
+// What granted calls give. specs/Reply.antt has document 01's number and values for each case.
 use plan::Answer;
 
-// Fresh, open, inspect, strike and close.
-#[derive(Clone, Copy)]
-pub enum Done {
-    Ok,
-    Refused(u32),
-}
-
 // What a lot shows. The blanks are among the marginal units.
-#[derive(Clone, Copy)]
+#[derive(Clone, Copy, Debug, PartialEq, Eq)]
 pub struct Shown {
     pub answer: Answer,
     pub units: u32,
@@ -19,14 +12,8 @@ pub struct Shown {
     pub blanks: u32,
 }
 
-#[derive(Clone, Copy)]
-pub enum Looked {
-    Shown(Shown),
-    Refused(u32),
-}
-
 // The totals over the closed lots.
-#[derive(Clone, Copy)]
+#[derive(Clone, Copy, Debug, PartialEq, Eq)]
 pub struct Totals {
     pub accepted: u32,
     pub rejected: u32,
@@ -35,23 +22,11 @@ pub struct Totals {
     pub bad: u32,
 }
 
-#[derive(Clone, Copy)]
-pub enum Tallied {
-    Totals(Totals),
-    Refused(u32),
-}
-
 // Of each class, the units that count, and how many these are; at least one.
-#[derive(Clone, Copy)]
+#[derive(Clone, Copy, Debug, PartialEq, Eq)]
 pub struct Estimate {
     pub good: u64,
     pub marginal: u64,
     pub bad: u64,
     pub over: u64,
-}
-
-#[derive(Clone, Copy)]
-pub enum Estimated {
-    Estimate(Estimate),
-    Refused(u32),
 }

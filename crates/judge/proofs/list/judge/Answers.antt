@@ -8,7 +8,7 @@ use mathlib.Core.Path.{◌≡◌, refl, ap, sym, ◌∙◌}
 use Rattle.plan.specs.Plan.{admitted}
 use Rattle.plan.specs.Sample.{are_classes}
 use Rattle.plan.proofs.Promise.{shape}
-use Rattle.plan.proofs.Refusal.{first_refusals}
+use Rattle.plan.proofs.Refusals.{first_refusals}
 use Rattle.judge.specs.declared.list.Judged.TheVariants.{Stops, Refused}
 use Rattle.judge.specs.Judge.{refusals, judgement, judged}
 use Rattle.judge.specs.Run.{semi_stop}

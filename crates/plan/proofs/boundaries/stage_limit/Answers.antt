@@ -9,11 +9,11 @@ unfolding first
 returns-then-accepts c =
     let a = c.args in
     rw (
-      c.minimum.ensures,
-      c.maximum.ensures,
-      c.less.ensures,
+      c.min.ensures,
+      c.max.ensures,
+      c.saturating_sub.ensures,
       c.word-then-accepts.ensures.0,
-      c.less-unrejected.ensures,
+      c.saturating_sub-unrejected.ensures,
       c.word.ensures.0,
     ) (limit_within (first a.plan.now) a.more a.g a.later (sym c.accepts.ensures ∙ c.if-accepts.true))
 
@@ -22,7 +22,7 @@ unfolding first
 returns c =
     let a = c.args in
     rw (
-      c.minimum-2.ensures,
-      c.less-unrejected.ensures,
+      c.min-2.ensures,
+      c.saturating_sub-unrejected.ensures,
       c.word.ensures.0,
     ) (limit_over (first a.plan.now) a.more a.g a.later (sym c.accepts.ensures ∙ c.if-accepts.false))

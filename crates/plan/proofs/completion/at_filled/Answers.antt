@@ -18,7 +18,7 @@ returns-then-end-y c =
 pub at_end-requires : goal.at_end-requires
 at_end-requires c =
     let a = c.args in
-    let u = ap units c.add_units.ensures ∙ (added a.class _ a.c).units in
+    let u = ap units c.with.ensures ∙ (added a.class _ a.c).units in
     (search rules, omega (arith, c.units-y.ensures))
 
 pub returns : goal.returns
@@ -26,5 +26,5 @@ returns c =
     let a = c.args in
     let y = c.units-y.ensures in
     c.at_end.ensures
-    ∙ ap (at_end (first a.plan.now)) (c.add_units.ensures ∙ ap (λ (k : ℕ). add_units a.class (a.end - k) a.c) y)
+    ∙ ap (at_end (first a.plan.now)) (c.with.ensures ∙ ap (λ (k : ℕ). add_units a.class (a.end - k) a.c) y)
     ∙ sym (end_due a.class a.c a.end (first a.plan.now) (omega arith))
