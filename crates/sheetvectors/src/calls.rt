@@ -1,5 +1,6 @@
 // The commands on a sheet: those that call the library, and those that write words between the calls.
-use crate::{fill, print};
+use crate::fill;
+use crate::print::reply;
 use cases::print::bad_line;
 use std::io;
 
@@ -8,22 +9,21 @@ fn shared(rt: &impl Print, words: &mut [u32], list: &[u32]) -> io::Result<()> {
     let Some((shares, plan)) = list.split_first_chunk::<16>() else {
         return bad_line(rt);
     };
-    let reply = sheet::fresh(words, plan, shares);
-    print::done(rt, reply, words)
+    reply(rt, sheet::fresh(words, plan, shares), words)
 }
 
 // A command of this kind, with the numbers of its line.
 pub fn answer(rt: &impl Print, kind: u8, list: &[u32], words: &mut [u32]) -> io::Result<()> {
     match (kind, list) {
-        (b'f', plan) => print::done(rt, sheet::fresh(words, plan, &[0; 16]), words),
+        (b'f', plan) => reply(rt, sheet::fresh(words, plan, &[0; 16]), words),
         (b'g', _) => shared(rt, words, list),
-        (b'o', [lot]) => print::done(rt, sheet::open(words, *lot), words),
-        (b'i', [lot, class]) => print::done(rt, sheet::inspect(words, *lot, *class), words),
-        (b's', [lot]) => print::done(rt, sheet::strike(words, *lot), words),
-        (b'c', [lot]) => print::done(rt, sheet::close(words, *lot), words),
-        (b'l', [lot]) => print::looked(rt, sheet::look(words, *lot), words),
-        (b't', []) => print::tallied(rt, sheet::tally(words), words),
-        (b'e', [lot]) => print::estimated(rt, sheet::estimate(words, *lot), words),
+        (b'o', [lot]) => reply(rt, sheet::open(words, *lot), words),
+        (b'i', [lot, class]) => reply(rt, sheet::inspect(words, *lot, *class), words),
+        (b's', [lot]) => reply(rt, sheet::strike(words, *lot), words),
+        (b'c', [lot]) => reply(rt, sheet::close(words, *lot), words),
+        (b'l', [lot]) => reply(rt, sheet::look(words, *lot), words),
+        (b't', []) => reply(rt, sheet::tally(words), words),
+        (b'e', [lot]) => reply(rt, sheet::estimate(words, *lot), words),
         (b'p', [index, word]) => fill::word(rt, words, *index, *word),
         (b'a', [index, stride, count, start, step]) => {
             fill::several(rt, words, [*index, *stride, *count, *start, *step])
