@@ -1,8 +1,8 @@
 -- The states of one row, in place: words filled with a value, states where inspection goes on, and the row as a whole.
 -- Assumes nothing.
-use Prim.Native.Nat.{ℕ, ◌+◌, ◌-◌, ◌*◌, ◌%◌, ◌≤◌, ◌<◌, min, max}
+use Prim.Native.Nat.{ℕ, ◌+◌, ◌-◌, ◌*◌, ◌≤◌, ◌<◌, min}
 use mathlib.Core.Path.{◌≡◌, refl, sym, ap, subst, ◌∙◌}
-use mathlib.Core.Logic.{◌⊎◌, inl, inr, ⊎_elim, ◌≢◌}
+use mathlib.Core.Logic.{◌⊎◌, inl, inr, ⊎_elim}
 use mathlib.Core.Bool.{Bool, true, false, cond}
 use mathlib.Core.List.{List}
 use lib.ListN.{length, get_or, set, replicate, length-set, length-replicate}
@@ -18,7 +18,7 @@ use Rattle.chance.specs.declared.setting.Setting.{Setting}
 use Rattle.chance.specs.declared.constant.Constant.{Constant}
 use Rattle.chance.specs.declared.row.Undecided.{Undecided}
 use Rattle.chance.specs.Chance.{scale}
-use Rattle.chance.specs.Layer.{word, state_value, Values, Valued, Between, Outside, Filled, further, Further, FurtherTo, Decided, SteppedRow}
+use Rattle.chance.specs.Layer.{word, state_value, Values, Valued, Between, Filled, further, Further, FurtherTo, Decided, SteppedRow}
 use Rattle.chance.specs.Constant.{constant_value, Legible}
 use Rattle.chance.proofs.Parts.{before_part, in_part, after_part}
 use Rattle.chance.proofs.States.{constant_is, inside, next_row, word_is, word_at_most, word_same, further_is, further_same}

@@ -9,7 +9,8 @@ use mathlib.Core.List.{List, [], ◌∷◌}
 use lib.ListN.{length}
 use lib.Dec.{leb}
 use borrow.Author.Tests.{leb-true, le-leb, lt-leb}
-use Rattle.plan.specs.Plan.{Stage, total, marked, ahead, numbered, each, never_falls, last, row_rules, numbered_rules, marked_rules, rules}
+use Rattle.plan.specs.declared.stage.Stage.{Stage}
+use Rattle.plan.specs.Plan.{total, marked, ahead, numbered, each, never_falls, last, row_rules, numbered_rules, marked_rules, rules}
 use Rattle.plan.specs.Row.{marked_step}
 use Rattle.plan.proofs.Bools.{and_left, and_right, first_false, mid_false, both_true}
 use Rattle.plan.proofs.Rows.{r1, r2}

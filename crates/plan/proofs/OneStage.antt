@@ -14,7 +14,8 @@ use Rattle.plan.specs.declared.counts.Counts.{Counts}
 use Rattle.plan.specs.declared.stage.Answer.{Answer}
 use Rattle.plan.specs.declared.stage.Answer.TheVariants.{GoOn, Accept, Reject}
 use Rattle.plan.specs.declared.ways.StageWay.TheVariants.{Full}
-use Rattle.plan.specs.Plan.{Stage, stages, first, total, marked, ahead, numbered, admitted, each, apart, last}
+use Rattle.plan.specs.declared.stage.Stage.{Stage}
+use Rattle.plan.specs.Plan.{stages, first, total, marked, ahead, numbered, admitted, each, apart, last}
 use Rattle.plan.specs.Counts.{units, nongood, nonbad, add_units}
 use Rattle.plan.specs.Stopping.{or_else, rejects, accepts, decide, at_end, full_at, at_filled, settled, staged, earliest, at_stage, first_answer, completed, only_reject}
 use Rattle.plan.specs.Promise.{OneStage}

@@ -4,7 +4,8 @@ use native.Mathlib.Omega.{arith}
 use mathlib.Core.Path.{◌≡◌, refl, sym, ap, ◌∙◌}
 use mathlib.Core.List.{List, [], ◌∷◌}
 use lib.ListN.{length, take, drop, length-drop}
-use Rattle.plan.specs.Plan.{Stage, stages, first, FirstAndRest, total}
+use Rattle.plan.specs.declared.stage.Stage.{Stage}
+use Rattle.plan.specs.Plan.{stages, first, FirstAndRest, total}
 
 pub stages_more : (w : List ℕ) → 5 ≤ length w → stages w ≡ first w ∷ stages (drop 5 w)
 unfolding stages first

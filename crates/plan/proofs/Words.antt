@@ -7,7 +7,8 @@ use mathlib.Core.List.{List, [], ◌∷◌}
 use lib.ListN.{length}
 use lib.Dec.{ltb}
 use borrow.Author.Tests.{ltb-true, ltb-false, le-leb, lt-leb}
-use Rattle.plan.specs.Plan.{Stage, stages, total, numbered_rules}
+use Rattle.plan.specs.declared.stage.Stage.{Stage}
+use Rattle.plan.specs.Plan.{stages, total, numbered_rules}
 use Rattle.plan.specs.Row.{stage_step, last_step}
 use Rattle.plan.proofs.Rows.{none_left, rules_one, rules_more}
 use Rattle.plan.proofs.Stages.{stages_more, stages_none}

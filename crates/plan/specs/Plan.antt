@@ -1,6 +1,6 @@
 -- A sampling plan: a run of words, five to a stage, and which runs are admitted. Document 01, "Plan".
 use Rattle.std.specs.Prelude.{ℕ, ◌+◌, ◌*◌, ◌<◌, ◌≡◌, ◌⊎◌, Bool, true, cond, ◌&&◌, List, [], ◌∷◌, length, get_or, leb, ltb, eqb}
-pub use Rattle.plan.specs.declared.stage.Stage.{Stage}
+use Rattle.plan.specs.declared.stage.Stage.{Stage}
 
 -- the first stage of a run of five words or more
 unfoldable pub first : List ℕ → Stage

@@ -64,7 +64,7 @@ impl From<[u32; 5]> for Stage {
 }
 
 // The first stage of a run of words, and the words after it. A stage that lacks words is none.
-pub fn split_first(plan: &[u32]) -> Option<(Stage, &[u32])>
+pub(crate) fn split_first(plan: &[u32]) -> Option<(Stage, &[u32])>
     ensures { MatchOption result (stages plan.now ≡ []) (λ p. FirstAndRest plan.now p.0 p.1.now) }
 {
     let (words, rest) = plan.split_first_chunk::<5>()?;
@@ -74,7 +74,7 @@ pub fn split_first(plan: &[u32]) -> Option<(Stage, &[u32])>
 impl Stage {
     // Do the units reach a rejection number?
     #[tactic(auto, unfolding(crate::specs::Stopping::rejects))]
-    pub fn rejects(self, c: Counts) -> bool
+    pub(crate) fn rejects(self, c: Counts) -> bool
         requires { units c ≤ 1000 }
         ensures { result ≡ rejects self c }
     {
@@ -83,7 +83,7 @@ impl Stage {
 
     // Is acceptance not permitted?
     #[tactic(auto, unfolding(crate::specs::Plan::marked))]
-    pub fn marked(self) -> bool
+    pub(crate) fn marked(self) -> bool
         ensures { result ≡ marked self }
     {
         self.accept1 == NOT_PERMITTED && self.accept2 == NOT_PERMITTED
@@ -91,7 +91,7 @@ impl Stage {
 
     // Is acceptance permitted, and are so many bad and so many nongood units within the acceptance numbers?
     #[tactic(auto, unfolding(crate::specs::Stopping::accepts))]
-    pub fn accepts(self, bad: u32, nongood: u32) -> bool
+    pub(crate) fn accepts(self, bad: u32, nongood: u32) -> bool
         ensures { result ≡ accepts self bad nongood }
     {
         !self.marked() && bad <= self.accept2 && nongood <= self.accept1
@@ -99,7 +99,7 @@ impl Stage {
 
     // The uncurtailed answer at the stage's end.
     #[tactic(auto, unfolding(crate::specs::Stopping::at_end, crate::specs::Stopping::decide))]
-    pub fn at_end(self, c: Counts) -> Answer
+    pub(crate) fn at_end(self, c: Counts) -> Answer
         requires { units c ≤ 1000 }
         ensures { result ≡ at_end self c }
     {

@@ -1,5 +1,5 @@
 -- The answers for `chance::step_fours`; Invariants.antt says what its loop goes by. Assumes nothing.
-use Prim.Native.Nat.{ℕ, ◌+◌, ◌-◌, ◌*◌, ◌≤◌, min}
+use Prim.Native.Nat.{ℕ, ◌+◌, ◌-◌, ◌*◌, min}
 use mathlib.Core.Path.{◌≡◌, subst}
 use native.Mathlib.Omega.{arith}
 use Rattle.chance.specs.Layer.{FurtherTo}

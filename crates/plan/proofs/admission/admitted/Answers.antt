@@ -3,7 +3,8 @@ use native.Mathlib.Omega.{arith}
 use mathlib.Core.Path.{sym, ap, ◌∙◌}
 use mathlib.Core.List.{List}
 use lib.ListN.{length}
-use Rattle.plan.specs.Plan.{Stage, rules}
+use Rattle.plan.specs.declared.stage.Stage.{Stage}
+use Rattle.plan.specs.Plan.{rules}
 use Rattle.plan.proofs.Stages.{stage_count}
 use Rattle.plan.proofs.Whole.{not_whole, no_stage, too_long, by_rules}
 use Rattle.plan.proofs.admission.admitted.Goals as goal
