@@ -1,4 +1,5 @@
 // The answers that are no numbers, a line each.
+use plan::Refusal;
 use std::io;
 
 // The answer to a line that is no case.
@@ -7,6 +8,6 @@ pub fn bad_line(rt: &impl Print) -> io::Result<()> {
 }
 
 // A refusal's number.
-pub fn refusal(rt: &impl Print, number: u32) -> io::Result<()> {
-    println!(rt; "no {number}")
+pub fn refusal(rt: &impl Print, refusal: Refusal) -> io::Result<()> {
+    println!(rt; "no {refusal}")
 }

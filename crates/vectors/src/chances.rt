@@ -1,29 +1,28 @@
 // Cases on the chance of acceptance and on the expected number of units: three weights, or the numbers of units of a lot
 // by class, the number of words of scratch, and the plan.
 ghost use Rattle.std.specs.Prelude.{ℕ};
-ghost use Rattle.chance.specs.declared.answers.Bounds.{Bounds};
+ghost use Rattle.chance.specs.Bounds.{Bounds};
 ghost use Rattle.chance.specs.Reply.{ExactFloats};
 
 use cases::print;
-use chance::{Bounds, BoundsAnswer, ChartAnswer};
+use chance::{Bounds, Chart};
+use plan::Refusal;
 use std::io;
 
 // The floats of a chart, as their bit patterns.
-pub fn patterns(answer: ChartAnswer) -> BoundsAnswer
+pub fn patterns(answer: Result<Chart, Refusal>) -> Result<Bounds, Refusal>
     requires { (k : ℕ) × (b : Bounds) × ExactFloats k b answer }
 {
-    match answer {
-        ChartAnswer::Pair(chart) => BoundsAnswer::Pair(Bounds {
-            low: chart.low.to_bits(),
-            high: chart.high.to_bits(),
-        }),
-        ChartAnswer::Refused(number) => BoundsAnswer::Refused(number),
-    }
+    let chart = answer?;
+    Ok(Bounds {
+        low: chart.low.to_bits(),
+        high: chart.high.to_bits(),
+    })
 }
 
 // `KIND W0 W1 W2 N P1 P2 ..`, or with `l` GOOD, MARGINAL and BAD for the weights: low and high by the kind's call. No
 // word of the N of scratch is 0 before the call, since no call may count on that.
-pub fn answer<F: Fn(&[u32], [u32; 3], &mut [u64]) -> BoundsAnswer>(
+pub fn answer<F: Fn(&[u32], [u32; 3], &mut [u64]) -> Result<Bounds, Refusal>>(
     rt: &impl Print,
     text: &[u8],
     call: F,
@@ -41,10 +40,7 @@ pub fn answer<F: Fn(&[u32], [u32; 3], &mut [u64]) -> BoundsAnswer>(
         return print::bad_line(rt);
     };
     match call(plan, [*w0, *w1, *w2], scratch) {
-        BoundsAnswer::Pair(bounds) => {
-            let Bounds { low, high } = bounds;
-            println!(rt; "{low} {high}")
-        }
-        BoundsAnswer::Refused(number) => print::refusal(rt, number),
+        Ok(bounds) => println!(rt; "{} {}", bounds.low, bounds.high),
+        Err(refusal) => print::refusal(rt, refusal),
     }
 }

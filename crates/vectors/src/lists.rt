@@ -1,6 +1,5 @@
 // Cases on a list of classes.
 use cases::print;
-use judge::Judged;
 use std::io;
 
 // `j .CLASSES W1 W2 ..`: the list judged four ways, and the event.
@@ -13,7 +12,7 @@ pub fn judged(rt: &impl Print, text: &[u8]) -> io::Result<()> {
         return print::bad_line(rt);
     };
     match judge::judge(plan.as_slice(), list.as_slice()) {
-        Judged::Stops(judgement) => println!(rt; "{judgement}"),
-        Judged::Refused(number) => print::refusal(rt, number),
+        Ok(judgement) => println!(rt; "{judgement}"),
+        Err(refusal) => print::refusal(rt, refusal),
     }
 }
