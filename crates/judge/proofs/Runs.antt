@@ -10,9 +10,8 @@ use lib.Dec.{eqb}
 use mir.Val.{bool_byte}
 use borrow.Author.Tests.{ne_eqb}
 use Rattle.plan.specs.declared.counts.Counts.{Counts}
-use Rattle.plan.specs.Counts.{units, nongood, no_units, add_units, counts_after, counts}
+use Rattle.plan.specs.Counts.{units, nongood, no_units, add_units, counts_after, counts, both}
 use Rattle.plan.proofs.Promise.{counting}
-use Rattle.judge.specs.Run.{both_counts}
 use Rattle.judge.proofs.Along.{next_counts}
 
 -- the classes of `&xs[i..j]`, as the borrow checker has them
@@ -95,9 +94,9 @@ sums c (x ∷ xs) =
     rw (counting.after_one c x xs, counting.after_one no_units x xs) (omega arith)
 
 -- so parts may be counted apart
-pub both_are : (c : Counts) (xs : List ℕ) → both_counts c (counts xs) ≡ counts_after c xs
+pub both_are : (c : Counts) (xs : List ℕ) → both c (counts xs) ≡ counts_after c xs
 both_are c xs =
     let a = sums c xs in
     let b = (counting.after_more c xs).units in
     let d = (counting.after_more no_units xs).units in
-    rw (counting.counted xs) (same_counts (both_counts c (counts_after no_units xs)) (counts_after c xs) (omega arith) (omega arith) (omega arith))
+    rw (counting.counted xs) (same_counts (both c (counts_after no_units xs)) (counts_after c xs) (omega arith) (omega arith) (omega arith))

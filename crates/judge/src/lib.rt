@@ -7,5 +7,5 @@ mod list;
 mod run;
 mod stop;
 
-pub use list::{Judged, Judgement, judge};
+pub use list::{Judgement, judge};
 pub use stop::Stop;

@@ -5,7 +5,8 @@ ghost use Rattle.judge.specs.Judge.{judged};
 
 use crate::event::event_of;
 use crate::stop::{Stop, before_full_stop, earliest_stop, semi_stop, stop_after, uncurtailed_stop};
-use plan::{StageWay, Way};
+use plan::{Refusal, StageWay, Way};
+use std::fmt;
 
 // The stops of the four ways, and the event at full's stop.
 #[derive(Clone, Copy)]
@@ -17,10 +18,18 @@ pub struct Judgement {
     pub event: u32,
 }
 
-#[derive(Clone, Copy)]
-pub enum Judged {
-    Stops(Judgement),
-    Refused(u32),
+// The stop of each way and the event, in 01's numbers.
+impl fmt::Display for Judgement {
+    fn fmt<W: fmt::Write>(&self, f: &mut fmt::Formatter<W>) -> fmt::Result {
+        let Judgement {
+            uncurtailed,
+            semi,
+            full,
+            earliest,
+            event,
+        } = self;
+        write!(f, "{uncurtailed} {semi} {full} {earliest} {event}")
+    }
 }
 
 // Is every class of the list one that a unit may have? The greatest decides, because a loop that does
@@ -39,19 +48,19 @@ fn are_classes(list: &[u8]) -> bool
     greatest <= plan::HIGHEST_CLASS as u8
 }
 
-pub fn judge(plan: &[u32], list: &[u8]) -> Judged
+pub fn judge(plan: &[u32], list: &[u8]) -> Result<Judgement, Refusal>
     ensures { result ≡ judged plan.now list.now }
 {
     if !plan::admitted(plan) {
-        return Judged::Refused(2);
+        return Err(Refusal::Plan);
     }
     if !are_classes(list) {
-        return Judged::Refused(7);
+        return Err(Refusal::Class);
     }
     let before = before_full_stop(plan, list);
     let full = stop_after(plan, Way::Staged(StageWay::Full), list, before);
     let uncurtailed = uncurtailed_stop(plan, list, full);
-    Judged::Stops(Judgement {
+    Ok(Judgement {
         uncurtailed,
         semi: semi_stop(full, uncurtailed),
         full,

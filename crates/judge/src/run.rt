@@ -1,7 +1,6 @@
 // The units of a run of classes.
 ghost use Rattle.std.specs.Prelude.{◌≡◌, ◌+◌, ◌≤◌, ◌<◌, length};
 ghost use Rattle.plan.specs.Counts.{units, counts_after, counts};
-ghost use Rattle.judge.specs.Run.{both_counts};
 
 use plan::Counts;
 
@@ -39,17 +38,6 @@ fn count_part(part: &[u8]) -> Counts
     }
 }
 
-fn both_counts(c: Counts, d: Counts) -> Counts
-    requires { units c + units d ≤ 1000 }
-    ensures { result ≡ both_counts c d }
-{
-    Counts {
-        good: c.good + d.good,
-        marginal: c.marginal + d.marginal,
-        bad: c.bad + d.bad,
-    }
-}
-
 // The counts with a run's classes.
 pub fn count_run(run: &[u8], before: Counts) -> Counts
     requires { units before + length run.now ≤ 1000 }
@@ -58,8 +46,8 @@ pub fn count_run(run: &[u8], before: Counts) -> Counts
     let mut c = before;
     let mut i: usize = 0;
     while i < run.len() {
-        let end = plan::minimum(i + PART, run.len());
-        c = both_counts(c, count_part(&run[i..end]));
+        let end = (i + PART).min(run.len());
+        c = c + count_part(&run[i..end]);
         i = end;
     }
     c

@@ -6,10 +6,11 @@ ghost use Rattle.plan.specs.declared.ways.Way.TheVariants.{Staged, Earliest};
 ghost use Rattle.plan.specs.Plan.{admitted};
 ghost use Rattle.plan.specs.Sample.{are_classes};
 ghost use Rattle.judge.specs.Judge.{no_stop, stop_of};
-ghost use Rattle.judge.specs.Run.{goes_on, Between, BeforeStop, semi_stop};
+ghost use Rattle.judge.specs.Run.{Between, BeforeStop, semi_stop};
 
 use crate::run::{count_run, half};
 use plan::{Answer, Counts, StageWay, Way};
+use std::fmt;
 
 // The answer and the units at the stop; GoOn and no units where the way does not stop.
 #[derive(Clone, Copy)]
@@ -18,22 +19,21 @@ pub struct Stop {
     pub counts: Counts,
 }
 
+// The units and the answer, in 01's numbers.
+impl fmt::Display for Stop {
+    fn fmt<W: fmt::Write>(&self, f: &mut fmt::Formatter<W>) -> fmt::Result {
+        let (counts, answer) = (self.counts, self.answer);
+        let units = counts.good as u64 + counts.marginal as u64 + counts.bad as u64;
+        write!(f, "{units} {}", answer.number())
+    }
+}
+
 fn no_stop() -> Stop
     ensures { result ≡ no_stop }
 {
     Stop {
         answer: Answer::GoOn,
-        counts: plan::no_units(),
-    }
-}
-
-fn goes_on(answer: Answer) -> bool
-    ensures { result ≡ goes_on answer }
-{
-    match answer {
-        Answer::GoOn => true,
-        Answer::Accept => false,
-        Answer::Reject => false,
+        counts: Counts::none(),
     }
 }
 
@@ -44,12 +44,12 @@ fn before_stop(plan: &[u32], way: Way, list: &[u8], from: Counts, end: usize) ->
     ensures { BeforeStop way plan.now list.now result }
 {
     let mut c = from;
-    let mut low = plan::units(from) as usize;
+    let mut low = from.units() as usize;
     let mut high = end;
     while 1 < high - low {
         let middle = low + half(high - low);
         let d = count_run(&list[low..middle], c);
-        if goes_on(plan::answer(plan, way, d)) {
+        if plan::answer(plan, way, d).goes_on() {
             c = d;
             low = middle;
         } else {
@@ -66,12 +66,12 @@ pub fn before_full_stop(plan: &[u32], list: &[u8]) -> Counts
     ensures { BeforeStop (Staged Full) plan.now list.now result }
 {
     let way = Way::Staged(StageWay::Full);
-    let mut c = plan::no_units();
+    let mut c = Counts::none();
     let mut i: usize = 0;
     while i < list.len() {
-        let end = plan::minimum(plan::end_from(plan, 0, i as u32 + 1) as usize, list.len());
+        let end = (plan::end_from(plan, 0, i as u32 + 1) as usize).min(list.len());
         let after = count_run(&list[i..end], c);
-        if !goes_on(plan::answer(plan, way, after)) {
+        if !plan::answer(plan, way, after).goes_on() {
             return before_stop(plan, way, list, c, end);
         }
         c = after;
@@ -85,11 +85,11 @@ pub fn stop_after(plan: &[u32], way: Way, list: &[u8], before: Counts) -> Stop
     requires { (admitted plan.now ≡ true) × BeforeStop way plan.now list.now before }
     ensures { result ≡ stop_of way plan.now list.now }
 {
-    let i = plan::units(before) as usize;
+    let i = before.units() as usize;
     if list.len() <= i {
         return no_stop();
     }
-    let c = plan::add_units(list[i] as u32, 1, before);
+    let c = before.with(list[i] as u32, 1);
     Stop {
         answer: plan::answer(plan, way, c),
         counts: c,
@@ -101,11 +101,10 @@ pub fn uncurtailed_stop(plan: &[u32], list: &[u8], full: Stop) -> Stop
     requires { (admitted plan.now ≡ true) × (full ≡ stop_of (Staged Full) plan.now list.now) }
     ensures { result ≡ stop_of (Staged Uncurtailed) plan.now list.now }
 {
-    let answer = full.answer;
-    if goes_on(answer) {
+    if full.answer.goes_on() {
         return no_stop();
     }
-    let from = plan::units(full.counts);
+    let from = full.counts.units();
     let end = plan::end_from(plan, 0, from) as usize;
     if list.len() < end {
         return no_stop();
@@ -138,11 +137,11 @@ pub fn earliest_stop(plan: &[u32], list: &[u8], full: Stop, before: Counts) -> S
     if plan.len() == 5 {
         return full;
     }
-    let end = plan::units(before) as usize;
+    let end = before.units() as usize;
     let nongood = (before.marginal + before.bad) as usize;
     if plan::accept_limit(plan, 0, end, nongood) <= before.bad as usize {
         return full;
     }
-    let sooner = before_stop(plan, Way::Earliest, list, plan::no_units(), end);
+    let sooner = before_stop(plan, Way::Earliest, list, Counts::none(), end);
     stop_after(plan, Way::Earliest, list, sooner)
 }

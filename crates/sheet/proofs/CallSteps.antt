@@ -12,15 +12,13 @@ use Rattle.plan.specs.Plan.{stages, admitted}
 use Rattle.plan.specs.Counts.{counts, units}
 use Rattle.plan.specs.Blanks.{blanks}
 use Rattle.plan.specs.Stopping.{earliest}
-use Rattle.plan.specs.Refusal.{Refusal, First, NoneApplies}
+use Rattle.std.specs.declared.result.Result.{Result}
+use Rattle.std.specs.declared.result.Result.TheVariants.{Ok, Err}
+use Rattle.plan.specs.declared.refusal.Refusal.{Refusal}
+use Rattle.plan.specs.declared.refusal.Refusal.TheVariants as refusal
+use Rattle.plan.specs.Refusal.{Row, First, NoneApplies}
 use Rattle.plan.proofs.Refusals.{first_append, first_after, none_append}
-use Rattle.sheetmodel.specs.declared.reply.Done.{Done}
-use Rattle.sheetmodel.specs.declared.reply.Done.TheVariants as done
-use Rattle.sheetmodel.specs.declared.reply.Looked.TheVariants as looked
-use Rattle.sheetmodel.specs.declared.reply.Tallied.TheVariants as tallied
 use Rattle.sheet.specs.declared.survey.Found.{Found}
-use Rattle.sheet.specs.declared.locating.Located.TheVariants.{Refused}
-use Rattle.sheet.specs.declared.granting.Grant.TheVariants as grant
 use Rattle.plan.specs.Sample.{highest_class}
 use Rattle.sheetmodel.specs.Layout.{largest, least_size, newest, plan_words, totals, closed_lots, most_closed}
 use Rattle.sheetmodel.specs.Contents.{Lot, history, find, records_of}
@@ -37,11 +35,14 @@ use Rattle.sheet.proofs.Requires.{holds, inside, can_open, can_inspect, can_stri
 use Rattle.sheet.proofs.LocatedFacts.{Whole, WithLot, refused_first, behind, all_behind, absent, present}
 use Rattle.sheet.proofs.GrantFacts.{denied, given}
 
-abbrev refusal : List ℕ → ℕ → Outcome Done
-refusal w n = record { reply = done.Refused n; words = w }
+abbrev Done : Type 0
+Done = Outcome (Result (Unit {0}) Refusal)
 
-abbrev ok : List ℕ → Outcome Done
-ok v = record { reply = done.Ok; words = v }
+abbrev refused : List ℕ → Refusal → Done
+refused w r = record { reply = Err r; words = w }
+
+abbrev ok : List ℕ → Done
+ok v = record { reply = Ok tt; words = v }
 
 found_before : (n : ℕ) (o : Option Lot) (b u : ℕ) → (found n o b u).before ≡ b
 found_before n none b u = refl
@@ -51,41 +52,41 @@ found_before n (some l) b u = refl
 
 module _ (n : ℕ) (w : List ℕ) where
   -- a record is needed for the lot n
-  abbrev pub needed : List Refusal
+  abbrev pub needed : List Row
   needed = record_rows (full w) (held_back n w)
 
-  pub open_refused : (r : ℕ) → located n w [] ≡ Refused r → open_lot n w ≡ refusal w r
+  pub open_refused : (r : Refusal) → located n w [] ≡ Err r → open_lot n w ≡ refused w r
   unfolding open_lot open_rows
-  open_refused r e = refuses done.Refused w done.Ok _ (open_rows n w) r (first_append (sheet_rows w []) (open_own n (standing n w) ++ needed) r (refused_first n w [] r e))
+  open_refused r e = refuses w tt _ (open_rows n w) r (first_append (sheet_rows w []) (open_own n (standing n w) ++ needed) r (refused_first n w [] r e))
 
   module _ (f : Found) (k : Whole n w f) where
-    open_row : (r : ℕ) → First (open_own n (standing n w) ++ needed) r → open_lot n w ≡ refusal w r
+    open_row : (r : Refusal) → First (open_own n (standing n w) ++ needed) r → open_lot n w ≡ refused w r
     unfolding open_lot open_rows
-    open_row r x = refuses done.Refused w done.Ok _ (open_rows n w) r (behind w k.contents k.size k.reads (open_own n (standing n w) ++ needed) r x)
+    open_row r x = refuses w tt _ (open_rows n w) r (behind w k.contents k.size k.reads (open_own n (standing n w) ++ needed) r x)
 
-    pub open_zero : n ≡ 0 → open_lot n w ≡ refusal w 4
-    open_zero e = open_row 4 (inl (eq-eqb n 0 e, refl))
+    pub open_zero : n ≡ 0 → open_lot n w ≡ refused w refusal.LotZero
+    open_zero e = open_row refusal.LotZero (inl (eq-eqb n 0 e, refl))
 
-    pub open_there : n ≢ 0 → f.at ≢ 0 → open_lot n w ≡ refusal w 5
-    open_there d e = open_row 5 (inr (ne_eqb n 0 d, inl (rw (k.reads, (present n w f k e).1) refl, refl)))
+    pub open_there : n ≢ 0 → f.at ≢ 0 → open_lot n w ≡ refused w refusal.LotOpen
+    open_there d e = open_row refusal.LotOpen (inr (ne_eqb n 0 d, inl (rw (k.reads, (present n w f k e).1) refl, refl)))
 
     new_lot : n ≢ 0 → f.at ≡ 0 → NoneApplies (open_own n (standing n w))
     new_lot d e = (ne_eqb n 0 d, (rw (k.reads, absent n w f k e) refl, tt))
 
-    pub open_denied : n ≢ 0 → f.at ≡ 0 → (r : ℕ) → grant_by needed ≡ grant.Refused r → open_lot n w ≡ refusal w r
+    pub open_denied : n ≢ 0 → f.at ≡ 0 → (r : Refusal) → grant_by needed ≡ Err r → open_lot n w ≡ refused w r
     open_denied d e r g = open_row r (first_after (open_own n (standing n w)) needed r (new_lot d e) (denied needed r g))
 
     before_is : f.before ≡ predecessor n w
     before_is = rw k.reads (ap (λ (g : Found). g.before) k.is ∙ found_before n (find n k.contents.lots) (last_below n 0 k.contents.lots) (records_of k.contents.lots))
 
-    pub open_requires : grant_by needed ≡ grant.Record → Room w × InWords w f.before
-    open_requires g = rw before_is (can_open w k.contents k.size k.reads n (given needed g).0)
+    pub open_requires : grant_by needed ≡ Ok tt → Room w × InWords w f.before
+    open_requires g = rw before_is (can_open w k.contents k.size k.reads n (given needed tt g).0)
 
-    pub open_granted : n ≢ 0 → f.at ≡ 0 → grant_by needed ≡ grant.Record → open_lot n w ≡ ok (with_lot w n f.before (new_record w))
+    pub open_granted : n ≢ 0 → f.at ≡ 0 → grant_by needed ≡ Ok tt → open_lot n w ≡ ok (with_lot w n f.before (new_record w))
     unfolding open_lot open_rows
     open_granted d e g =
-        grants done.Refused w done.Ok _ (open_rows n w)
-        (all_behind w k.contents k.size k.reads (open_own n (standing n w) ++ needed) (none_append (open_own n (standing n w)) needed (new_lot d e) (given needed g))) ∙
+        grants w tt _ (open_rows n w)
+        (all_behind w k.contents k.size k.reads (open_own n (standing n w) ++ needed) (none_append (open_own n (standing n w)) needed (new_lot d e) (given needed tt g))) ∙
         ap (λ (before : ℕ). ok (with_lot w n before (new_record w))) (sym before_is)
 
 -- ---- the calls on a lot
@@ -135,67 +136,67 @@ module _ (n : ℕ) (w : List ℕ) (f : Found) (k : WithLot n w f) where
   as_rows_ask b u = ap undecided answer_is ∙ u
 
   -- behind rows 1, 3 and 6
-  pub past_lot : (rest : List Refusal) (r : ℕ) → First rest r → First (sheet_rows w (lot_rows (standing n w) rest)) r
+  pub past_lot : (rest : List Row) (r : Refusal) → First rest r → First (sheet_rows w (lot_rows (standing n w) rest)) r
   past_lot rest r x = behind w k.contents k.size k.reads (lot_rows (standing n w) rest) r (inr (lot_is_there, x))
 
-  pub all_past_lot : (rest : List Refusal) → NoneApplies rest → NoneApplies (sheet_rows w (lot_rows (standing n w) rest))
+  pub all_past_lot : (rest : List Row) → NoneApplies rest → NoneApplies (sheet_rows w (lot_rows (standing n w) rest))
   all_past_lot rest x = all_behind w k.contents k.size k.reads (lot_rows (standing n w) rest) (lot_is_there, x)
 
 -- a refusal by rows 1, 3 and 6
-pub first_rows : (n : ℕ) (w : List ℕ) (rest : List Refusal) (r : ℕ) → located n w (lot_rows (standing n w) []) ≡ Refused r → First (sheet_rows w (lot_rows (standing n w) rest)) r
+pub first_rows : (n : ℕ) (w : List ℕ) (rest : List Row) (r : Refusal) → located n w (lot_rows (standing n w) []) ≡ Err r → First (sheet_rows w (lot_rows (standing n w) rest)) r
 first_rows n w rest r e = first_append (sheet_rows w (lot_rows (standing n w) [])) rest r (refused_first n w (lot_rows (standing n w) []) r e)
 
 -- ---- inspect
 
 module _ (n c : ℕ) (w : List ℕ) where
-  abbrev inspect_rest : List Refusal
+  abbrev inspect_rest : List Row
   inspect_rest = inspect_own (plan_words w) (standing n w) c ++ needed n w
 
-  pub inspect_refused : (r : ℕ) → located n w (lot_rows (standing n w) []) ≡ Refused r → inspect n c w ≡ refusal w r
+  pub inspect_refused : (r : Refusal) → located n w (lot_rows (standing n w) []) ≡ Err r → inspect n c w ≡ refused w r
   unfolding inspect inspect_rows
-  inspect_refused r e = refuses done.Refused w done.Ok _ (inspect_rows n c w) r (first_rows n w inspect_rest r e)
+  inspect_refused r e = refuses w tt _ (inspect_rows n c w) r (first_rows n w inspect_rest r e)
 
   module _ (f : Found) (k : WithLot n w f) where
-    inspect_row : (r : ℕ) → First inspect_rest r → inspect n c w ≡ refusal w r
+    inspect_row : (r : Refusal) → First inspect_rest r → inspect n c w ≡ refused w r
     unfolding inspect inspect_rows
-    inspect_row r x = refuses done.Refused w done.Ok _ (inspect_rows n c w) r (past_lot n w f k inspect_rest r x)
+    inspect_row r x = refuses w tt _ (inspect_rows n c w) r (past_lot n w f k inspect_rest r x)
 
-    pub inspect_class : highest_class < c → inspect n c w ≡ refusal w 7
-    inspect_class h = inspect_row 7 (inl (lt-ltb highest_class c h, refl))
+    pub inspect_class : highest_class < c → inspect n c w ≡ refused w refusal.Class
+    inspect_class h = inspect_row refusal.Class (inl (lt-ltb highest_class c h, refl))
 
     module _ (h : c ≤ highest_class) where
-      pub inspect_decided : undecided (earliest (stages (plan_words w)) f.counts) ≡ false → inspect n c w ≡ refusal w 8
-      inspect_decided u = inspect_row 8 (inr (le-ltb highest_class c h, inl (rw (as_rows_ask n w f k false u) refl, refl)))
+      pub inspect_decided : undecided (earliest (stages (plan_words w)) f.counts) ≡ false → inspect n c w ≡ refused w refusal.Decided
+      inspect_decided u = inspect_row refusal.Decided (inr (le-ltb highest_class c h, inl (rw (as_rows_ask n w f k false u) refl, refl)))
 
       module _ (u : undecided (earliest (stages (plan_words w)) f.counts) ≡ true) where
-        pub inspect_denied : (r : ℕ) → grant_by (needed n w) ≡ grant.Refused r → inspect n c w ≡ refusal w r
+        pub inspect_denied : (r : Refusal) → grant_by (needed n w) ≡ Err r → inspect n c w ≡ refused w r
         inspect_denied r g = inspect_row r (inr (le-ltb highest_class c h, inr (rw (as_rows_ask n w f k true u) refl, denied (needed n w) r g)))
 
-        pub inspect_granted : grant_by (needed n w) ≡ grant.Record → inspect n c w ≡ ok (with_inspection w f.at (units f.counts) c (new_record w))
+        pub inspect_granted : grant_by (needed n w) ≡ Ok tt → inspect n c w ≡ ok (with_inspection w f.at (units f.counts) c (new_record w))
         unfolding inspect inspect_rows
         inspect_granted g =
-            grants done.Refused w done.Ok _ (inspect_rows n c w)
-            (all_past_lot n w f k inspect_rest (le-ltb highest_class c h, (rw (as_rows_ask n w f k true u) refl, given (needed n w) g))) ∙
+            grants w tt _ (inspect_rows n c w)
+            (all_past_lot n w f k inspect_rest (le-ltb highest_class c h, (rw (as_rows_ask n w f k true u) refl, given (needed n w) tt g))) ∙
             ap ok (rw (found_lot n w f k, at_is n w f k, units_are n w f k))
 
-    pub inspect_requires : grant_by (needed n w) ≡ grant.Record → Room w × InWords w f.at × (units f.counts < largest)
+    pub inspect_requires : grant_by (needed n w) ≡ Ok tt → Room w × InWords w f.at × (units f.counts < largest)
     inspect_requires g =
-        rw (at_is n w f k, units_are n w f k) (can_inspect w k.contents k.size k.reads n k.lot k.finds (given (needed n w) g).0)
+        rw (at_is n w f k, units_are n w f k) (can_inspect w k.contents k.size k.reads n k.lot k.finds (given (needed n w) tt g).0)
 
 -- ---- strike
 
 module _ (n : ℕ) (w : List ℕ) where
-  pub strike_refused : (r : ℕ) → located n w (lot_rows (standing n w) []) ≡ Refused r → strike n w ≡ refusal w r
+  pub strike_refused : (r : Refusal) → located n w (lot_rows (standing n w) []) ≡ Err r → strike n w ≡ refused w r
   unfolding strike strike_rows
-  strike_refused r e = refuses done.Refused w done.Ok _ (strike_rows n w) r (first_rows n w (strike_own (standing n w)) r e)
+  strike_refused r e = refuses w tt _ (strike_rows n w) r (first_rows n w (strike_own (standing n w)) r e)
 
   module _ (f : Found) (k : WithLot n w f) where
     inspections_are : length (classes_in (standing n w)) ≡ units f.counts
     inspections_are = rw (standing_is n w f k) (length_classes k.lot.inspections ∙ sym (units_are n w f k))
 
-    pub strike_none : units f.counts ≡ 0 → strike n w ≡ refusal w 9
+    pub strike_none : units f.counts ≡ 0 → strike n w ≡ refused w refusal.NoUnit
     unfolding strike strike_rows
-    strike_none e = refuses done.Refused w done.Ok _ (strike_rows n w) 9 (past_lot n w f k (strike_own (standing n w)) 9 (inl (eq-eqb (length (classes_in (standing n w))) 0 (inspections_are ∙ e), refl)))
+    strike_none e = refuses w tt _ (strike_rows n w) refusal.NoUnit (past_lot n w f k (strike_own (standing n w)) refusal.NoUnit (inl (eq-eqb (length (classes_in (standing n w))) 0 (inspections_are ∙ e), refl)))
 
     pub strike_requires : units f.counts ≢ 0 → Striking w f.at
     strike_requires d = rw (at_is n w f k) (can_strike w k.contents k.size k.reads n k.lot k.finds (λ e. d (units_are n w f k ∙ e)))
@@ -203,34 +204,34 @@ module _ (n : ℕ) (w : List ℕ) where
     pub strike_granted : units f.counts ≢ 0 → strike n w ≡ ok (without_newest w f.at (newest w f.at))
     unfolding strike strike_rows
     strike_granted d =
-        grants done.Refused w done.Ok _ (strike_rows n w) (all_past_lot n w f k (strike_own (standing n w)) (ne_eqb (length (classes_in (standing n w))) 0 (λ e. d (sym inspections_are ∙ e)), tt)) ∙
+        grants w tt _ (strike_rows n w) (all_past_lot n w f k (strike_own (standing n w)) (ne_eqb (length (classes_in (standing n w))) 0 (λ e. d (sym inspections_are ∙ e)), tt)) ∙
         ap ok (rw (found_lot n w f k, at_is n w f k))
 
 -- ---- close
 
 module _ (n : ℕ) (w : List ℕ) where
-  abbrev close_rest : List Refusal
+  abbrev close_rest : List Row
   close_rest = close_own (plan_words w) (standing n w) ++ totals_rows (tally_full w)
 
-  pub close_refused : (r : ℕ) → located n w (lot_rows (standing n w) []) ≡ Refused r → close n w ≡ refusal w r
+  pub close_refused : (r : Refusal) → located n w (lot_rows (standing n w) []) ≡ Err r → close n w ≡ refused w r
   unfolding close close_rows
-  close_refused r e = refuses done.Refused w done.Ok _ (close_rows n w) r (first_rows n w close_rest r e)
+  close_refused r e = refuses w tt _ (close_rows n w) r (first_rows n w close_rest r e)
 
   module _ (f : Found) (k : WithLot n w f) where
-    pub close_undecided : undecided (earliest (stages (plan_words w)) f.counts) ≡ true → close n w ≡ refusal w 10
+    pub close_undecided : undecided (earliest (stages (plan_words w)) f.counts) ≡ true → close n w ≡ refused w refusal.Undecided
     unfolding close close_rows
-    close_undecided u = refuses done.Refused w done.Ok _ (close_rows n w) 10 (past_lot n w f k close_rest 10 (inl (as_rows_ask n w f k true u, refl)))
+    close_undecided u = refuses w tt _ (close_rows n w) refusal.Undecided (past_lot n w f k close_rest refusal.Undecided (inl (as_rows_ask n w f k true u, refl)))
 
     module _ (u : undecided (earliest (stages (plan_words w)) f.counts) ≡ false) where
-      pub close_full : tally_full w ≡ true → close n w ≡ refusal w 12
+      pub close_full : tally_full w ≡ true → close n w ≡ refused w refusal.TotalsFull
       unfolding close close_rows
-      close_full b = refuses done.Refused w done.Ok _ (close_rows n w) 12 (past_lot n w f k close_rest 12 (inr (as_rows_ask n w f k false u, inl (b, refl))))
+      close_full b = refuses w tt _ (close_rows n w) refusal.TotalsFull (past_lot n w f k close_rest refusal.TotalsFull (inr (as_rows_ask n w f k false u, inl (b, refl))))
 
       pub close_granted : tally_full w ≡ false → close n w ≡ ok (without_lot w f.before (lot_at w f.at))
       unfolding close close_rows
       close_granted b =
           let lot_same : lot_at w f.at ≡ k.lot = ap (lot_at w) (at_is n w f k) ∙ lot_is w k.contents k.size k.reads n k.lot k.finds in
-          grants done.Refused w done.Ok _ (close_rows n w) (all_past_lot n w f k close_rest (as_rows_ask n w f k false u, (b, tt))) ∙
+          grants w tt _ (close_rows n w) (all_past_lot n w f k close_rest (as_rows_ask n w f k false u, (b, tt))) ∙
           ap ok (rw (found_lot n w f k, lot_before_is n w f k, lot_same))
 
     pub close_requires : tally_full w ≡ false → Closing w f.at f.before (earliest (stages (plan_words w)) f.counts) f.counts
@@ -241,18 +242,18 @@ module _ (n : ℕ) (w : List ℕ) where
 -- ---- look and tally
 
 module _ (n : ℕ) (w : List ℕ) where
-  pub look_refused : (r : ℕ) → located n w (lot_rows (standing n w) []) ≡ Refused r → look n w ≡ record { reply = looked.Refused r; words = w }
+  pub look_refused : (r : Refusal) → located n w (lot_rows (standing n w) []) ≡ Err r → look n w ≡ record { reply = Err r; words = w }
   unfolding look look_rows
-  look_refused r e = refuses looked.Refused w _ w (look_rows n w) r (first_rows n w [] r e)
+  look_refused r e = refuses w _ w (look_rows n w) r (first_rows n w [] r e)
 
-  pub look_shown : (f : Found) (k : WithLot n w f) → look n w ≡ record { reply = looked.Shown (shown (earliest (stages (plan_words w)) f.counts) f.counts f.blanks); words = w }
+  pub look_shown : (f : Found) (k : WithLot n w f) → look n w ≡ record { reply = Ok (shown (earliest (stages (plan_words w)) f.counts) f.counts f.blanks); words = w }
   unfolding look look_rows
-  look_shown f k = grants looked.Refused w _ w (look_rows n w) (all_past_lot n w f k [] tt) ∙ rw (found_lot n w f k, counts_are n w f k, blanks_are n w f k)
+  look_shown f k = grants w _ w (look_rows n w) (all_past_lot n w f k [] tt) ∙ rw (found_lot n w f k, counts_are n w f k, blanks_are n w f k)
 
-  pub tally_refused : (r : ℕ) → located n w [] ≡ Refused r → tally w ≡ record { reply = tallied.Refused r; words = w }
+  pub tally_refused : (r : Refusal) → located n w [] ≡ Err r → tally w ≡ record { reply = Err r; words = w }
   unfolding tally tally_rows
-  tally_refused r e = refuses tallied.Refused w _ w (tally_rows w) r (refused_first n w [] r e)
+  tally_refused r e = refuses w _ w (tally_rows w) r (refused_first n w [] r e)
 
-  pub tally_shown : (f : Found) (k : Whole n w f) → tally w ≡ record { reply = tallied.Totals (totals w); words = w }
+  pub tally_shown : (f : Found) (k : Whole n w f) → tally w ≡ record { reply = Ok (totals w); words = w }
   unfolding tally tally_rows
-  tally_shown f k = grants tallied.Refused w _ w (tally_rows w) (all_behind w k.contents k.size k.reads [] tt)
+  tally_shown f k = grants w _ w (tally_rows w) (all_behind w k.contents k.size k.reads [] tt)

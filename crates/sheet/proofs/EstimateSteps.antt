@@ -15,9 +15,10 @@ use Rattle.plan.specs.Counts.{counts, units, add_units}
 use Rattle.plan.specs.Stopping.{earliest}
 use Rattle.plan.proofs.Promise.{shape, counting}
 use Rattle.sheetmodel.specs.declared.reply.Estimate.{Estimate}
-use Rattle.sheetmodel.specs.declared.reply.Estimated.TheVariants as estimated
+use Rattle.std.specs.declared.result.Result.TheVariants.{Ok, Err}
+use Rattle.plan.specs.declared.refusal.Refusal.{Refusal}
+use Rattle.plan.specs.declared.refusal.Refusal.TheVariants as refusal
 use Rattle.sheet.specs.declared.survey.Found.{Found}
-use Rattle.sheet.specs.declared.locating.Located.TheVariants.{Refused}
 use Rattle.sheetmodel.specs.Layout.{word, field, newest, next_unused, stage_count, first_record, plan_start, plan_words}
 use Rattle.sheetmodel.specs.Contents.{Inspection, classes, history}
 use Rattle.sheetmodel.specs.Holds.{Inspections}
@@ -62,9 +63,9 @@ pub record Newest (w : List ℕ) (f : Found) (h : List ℕ) : Type 0 where
   pub counted : f.counts ≡ add_units (field w (newest w f.at) 0) 1 (counts (without_last h))
 
 module _ (n : ℕ) (w : List ℕ) where
-  pub estimate_refused : (r : ℕ) → located n w (lot_rows (standing n w) []) ≡ Refused r → estimate n w ≡ record { reply = estimated.Refused r; words = w }
+  pub estimate_refused : (r : Refusal) → located n w (lot_rows (standing n w) []) ≡ Err r → estimate n w ≡ record { reply = Err r; words = w }
   unfolding estimate estimate_rows
-  estimate_refused r e = refuses estimated.Refused w _ w (estimate_rows n w) r (first_rows n w (estimate_own (plan_words w) (standing n w)) r e)
+  estimate_refused r e = refuses w _ w (estimate_rows n w) r (first_rows n w (estimate_own (plan_words w) (standing n w)) r e)
 
   module _ (f : Found) (k : WithLot n w f) where
     stages_are : length (stages (plan_words w)) ≡ word w stage_count
@@ -74,16 +75,16 @@ module _ (n : ℕ) (w : List ℕ) where
         let s = shape (plan_words w) plan in
         omega (arith, s.whole, few_stages w long plan, length-take (5 * word w stage_count) (drop plan_start w), length-drop plan_start w)
 
-    pub estimate_undecided : undecided (earliest (stages (plan_words w)) f.counts) ≡ true → estimate n w ≡ record { reply = estimated.Refused 10; words = w }
+    pub estimate_undecided : undecided (earliest (stages (plan_words w)) f.counts) ≡ true → estimate n w ≡ record { reply = Err refusal.Undecided; words = w }
     unfolding estimate estimate_rows
-    estimate_undecided u = refuses estimated.Refused w _ w (estimate_rows n w) 10 (past_lot n w f k (estimate_own (plan_words w) (standing n w)) 10 (inl (as_rows_ask n w f k true u, refl)))
+    estimate_undecided u = refuses w _ w (estimate_rows n w) refusal.Undecided (past_lot n w f k (estimate_own (plan_words w) (standing n w)) refusal.Undecided (inl (as_rows_ask n w f k true u, refl)))
 
     module _ (u : undecided (earliest (stages (plan_words w)) f.counts) ≡ false) where
-      pub estimate_stages : 1 < word w stage_count → estimate n w ≡ record { reply = estimated.Refused 15; words = w }
+      pub estimate_stages : 1 < word w stage_count → estimate n w ≡ record { reply = Err refusal.SeveralStages; words = w }
       unfolding estimate estimate_rows
       estimate_stages h =
-          refuses estimated.Refused w _ w (estimate_rows n w) 15
-          (past_lot n w f k (estimate_own (plan_words w) (standing n w)) 15 (inr (as_rows_ask n w f k false u, inl (rw stages_are (lt-ltb 1 (word w stage_count) h), refl))))
+          refuses w _ w (estimate_rows n w) refusal.SeveralStages
+          (past_lot n w f k (estimate_own (plan_words w) (standing n w)) refusal.SeveralStages (inr (as_rows_ask n w f k false u, inl (rw stages_are (lt-ltb 1 (word w stage_count) h), refl))))
 
       newest_at : (is : List Inspection) → Inspections first_record w (word w next_unused) k.lot.at is (newest w k.lot.at) → f.counts ≡ counts (classes is) → Newest w f (classes is)
       newest_at [] h e = absurd (omega (arith, has_unit (plan_words w) (holds w k.contents k.size k.reads).plan [] (rw e at u)))
@@ -129,11 +130,11 @@ module _ (n : ℕ) (w : List ℕ) where
               rw older_are (omega (arith, few n w f k, ap units newest_unit.counted, counting.added last 1 older))
 
       pub estimate_granted : word w stage_count ≤ 1 → (c : Counts) → c ≡ evidence_counts last f.counts →
-          estimate n w ≡ record { reply = estimated.Estimate (record { good = c.good; marginal = c.marginal; bad = c.bad; over = units c }); words = w }
+          estimate n w ≡ record { reply = Ok (record { good = c.good; marginal = c.marginal; bad = c.bad; over = units c }); words = w }
       unfolding estimate estimate_rows
       estimate_granted h c e =
           let same : estimate_of (stages (plan_words w)) (history k.lot) ≡ record { good = c.good; marginal = c.marginal; bad = c.bad; over = units c } =
           rw (e ∙ evidence_is, counting.length_of (evidence (history k.lot))) in
-          grants estimated.Refused w _ w (estimate_rows n w)
+          grants w _ w (estimate_rows n w)
           (all_past_lot n w f k (estimate_own (plan_words w) (standing n w)) (as_rows_ask n w f k false u, (rw stages_are (le-ltb 1 (word w stage_count) h), tt))) ∙
-          rw (found_lot n w f k) (ap (λ (x : Estimate). record { reply = estimated.Estimate x; words = w }) same)
+          rw (found_lot n w f k) (ap (λ (x : Estimate). record { reply = Ok x; words = w }) same)

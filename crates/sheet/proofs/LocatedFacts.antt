@@ -7,12 +7,14 @@ use mathlib.Core.Option.{Option, none, some}
 use mathlib.Core.List.{List, []}
 use native.Mathlib.Omega.{arith}
 use borrow.Author.Tests.{not-false}
-use Rattle.plan.specs.Refusal.{Refusal, First, NoneApplies}
+use Rattle.std.specs.declared.result.Result.{Result}
+use Rattle.std.specs.declared.result.Result.TheVariants.{Ok, Err}
+use Rattle.plan.specs.declared.refusal.Refusal.{Refusal}
+use Rattle.plan.specs.declared.refusal.Refusal.TheVariants as refusal
+use Rattle.plan.specs.Refusal.{Row, First, NoneApplies}
 use Rattle.plan.proofs.Refusals.{refused_exactly, first_refusals, first_append}
 use Rattle.sheet.specs.declared.survey.Found.{Found}
 use Rattle.sheet.specs.declared.survey.Surveyed.TheVariants.{Corrupt, Intact}
-use Rattle.sheet.specs.declared.locating.Located.{Located}
-use Rattle.sheet.specs.declared.locating.Located.TheVariants.{Refused, At}
 use Rattle.sheetmodel.specs.Layout.{size_ok, share, first_record}
 use Rattle.sheetmodel.specs.Contents.{Lot, Contents, find, records_of}
 use Rattle.sheetmodel.specs.Offices.{shares_fit}
@@ -25,27 +27,30 @@ use Rattle.sheet.specs.Sharing.{WholeSheet, HeldBy, Counted}
 use Rattle.sheetmodel.proofs.ForSheet.{some_value, some_lot}
 use Rattle.sheet.proofs.Requires.{lot_after_header}
 
+abbrev Located : Type 0
+Located = Result Found Refusal
+
 -- what the first rows refuse, and what they let through
-module _ (n : ℕ) (w : List ℕ) (others : List Refusal) where
-  pub refused_first : (r : ℕ) → located n w others ≡ Refused r → First (sheet_rows w others) r
-  refused_first r e = (refused_exactly Located Refused (sheet_rows w others) (At (found_on n w)) (λ i j d. cc) (λ i d. let z : ◌≡◌ {A = ℕ} 0 1 = cc in omega arith) r).0 e
+module _ (n : ℕ) (w : List ℕ) (others : List Row) where
+  pub refused_first : (r : Refusal) → located n w others ≡ Err r → First (sheet_rows w others) r
+  refused_first r e = (refused_exactly Located Err (sheet_rows w others) (Ok (found_on n w)) (λ i j d. cc) (λ i d. cc) r).0 e
 
-  refusing : (r : ℕ) → First (sheet_rows w others) r → located n w others ≡ Refused r
-  refusing r f = first_refusals.refuses Located Refused (sheet_rows w others) (At (found_on n w)) r f
+  refusing : (r : Refusal) → First (sheet_rows w others) r → located n w others ≡ Err r
+  refusing r f = first_refusals.refuses Located Err (sheet_rows w others) (Ok (found_on n w)) r f
 
-  finding : (f : Found) → NoneApplies (sheet_rows w others) → found_on n w ≡ f → located n w others ≡ At f
-  finding f e d = first_refusals.grants Located Refused (sheet_rows w others) (At (found_on n w)) e ∙ ap At d
+  finding : (f : Found) → NoneApplies (sheet_rows w others) → found_on n w ≡ f → located n w others ≡ Ok f
+  finding f e d = first_refusals.grants Located Err (sheet_rows w others) (Ok (found_on n w)) e ∙ ap Ok d
 
-  found_by : (f : Found) → located n w others ≡ At f → NoneApplies (sheet_rows w others) × (found_on n w ≡ f)
+  found_by : (f : Found) → located n w others ≡ Ok f → NoneApplies (sheet_rows w others) × (found_on n w ≡ f)
   found_by f e = go (first_refusals.either (sheet_rows w others))
     where
-      go : ((m : ℕ) × First (sheet_rows w others) m) ⊎ NoneApplies (sheet_rows w others) → NoneApplies (sheet_rows w others) × (found_on n w ≡ f)
+      go : ((m : Refusal) × First (sheet_rows w others) m) ⊎ NoneApplies (sheet_rows w others) → NoneApplies (sheet_rows w others) × (found_on n w ≡ f)
       go (inl x) = let d = refusing x.0 x.1 in let z : ◌≡◌ {A = ℕ} 0 1 = cc in absurd (omega arith)
       go (inr x) = let d = finding (found_on n w) x refl in (x, cc)
 
 -- behind the rows of every sheet, on a sheet of a right size that is not corrupt
-module _ (w : List ℕ) (s : Contents) (size : size_ok w ≡ true) (reads : read w ≡ some s) (rows : List Refusal) where
-  pub behind : (m : ℕ) → First rows m → First (sheet_rows w rows) m
+module _ (w : List ℕ) (s : Contents) (size : size_ok w ≡ true) (reads : read w ≡ some s) (rows : List Row) where
+  pub behind : (m : Refusal) → First rows m → First (sheet_rows w rows) m
   behind m f = inr (rw size refl, inr (rw reads refl, f))
 
   pub all_behind : NoneApplies rows → NoneApplies (sheet_rows w rows)
@@ -77,13 +82,13 @@ lot_whole_sheet n w f k = record { size = k.size; intact = ap is_some k.reads }
 module _ (n : ℕ) (w : List ℕ) where
   -- ---- what the tests say
 
-  pub wrong_size : size_ok w ≡ false → located n w [] ≡ Refused 1
-  wrong_size z = refusing n w [] 1 (inl (rw z refl, refl))
+  pub wrong_size : size_ok w ≡ false → located n w [] ≡ Err refusal.Size
+  wrong_size z = refusing n w [] refusal.Size (inl (rw z refl, refl))
 
-  no_contents : size_ok w ≡ true → read w ≡ none → located n w [] ≡ Refused 3
-  no_contents z r = refusing n w [] 3 (inr (rw z refl, inl (rw r refl, refl)))
+  no_contents : size_ok w ≡ true → read w ≡ none → located n w [] ≡ Err refusal.Corrupt
+  no_contents z r = refusing n w [] refusal.Corrupt (inr (rw z refl, inl (rw r refl, refl)))
 
-  pub too_many_shares : size_ok w ≡ true → shares_fit (share w) w ≡ false → located n w [] ≡ Refused 3
+  pub too_many_shares : size_ok w ≡ true → shares_fit (share w) w ≡ false → located n w [] ≡ Err refusal.Corrupt
   unfolding read
   too_many_shares z u = no_contents z (rw u refl)
 
@@ -92,17 +97,17 @@ module _ (n : ℕ) (w : List ℕ) where
   unfolding read
   fitting u = rw u refl
 
-  pub corrupt : size_ok w ≡ true → shares_fit (share w) w ≡ true → survey_of n (read_from first_record w) ≡ Corrupt → located n w [] ≡ Refused 3
+  pub corrupt : size_ok w ≡ true → shares_fit (share w) w ≡ true → survey_of n (read_from first_record w) ≡ Corrupt → located n w [] ≡ Err refusal.Corrupt
   corrupt z u e = go (read w) refl (rw (fitting u) e)
     where
-      go : (o : Option Contents) → read w ≡ o → survey_of n o ≡ Corrupt → located n w [] ≡ Refused 3
+      go : (o : Option Contents) → read w ≡ o → survey_of n o ≡ Corrupt → located n w [] ≡ Err refusal.Corrupt
       go none r e = no_contents z r
       go (some s) r e = let y : ◌≡◌ {A = ℕ} 0 1 = cc in absurd (omega arith)
 
-  pub intact : (f : Found) → size_ok w ≡ true → shares_fit (share w) w ≡ true → survey_of n (read_from first_record w) ≡ Intact f → located n w [] ≡ At f
+  pub intact : (f : Found) → size_ok w ≡ true → shares_fit (share w) w ≡ true → survey_of n (read_from first_record w) ≡ Intact f → located n w [] ≡ Ok f
   intact f z u e = go (read w) refl (rw (fitting u) e)
     where
-      go : (o : Option Contents) → read w ≡ o → survey_of n o ≡ Intact f → located n w [] ≡ At f
+      go : (o : Option Contents) → read w ≡ o → survey_of n o ≡ Intact f → located n w [] ≡ Ok f
       go none r e = let y : ◌≡◌ {A = ℕ} 0 1 = cc in absurd (omega arith)
       go (some s) r e =
           let same : found n (find n s.lots) (last_below n 0 s.lots) (records_of s.lots) ≡ f = cc in
@@ -118,7 +123,7 @@ module _ (n : ℕ) (w : List ℕ) where
 
   -- ---- what follows
 
-  pub whole : (f : Found) → located n w [] ≡ At f → Whole n w f
+  pub whole : (f : Found) → located n w [] ≡ Ok f → Whole n w f
   whole f e =
       let x = found_by n w [] f e in
       let s = some_value (read w) x.0.1.0 in
@@ -142,20 +147,20 @@ module _ (n : ℕ) (w : List ℕ) where
         go none z = absurd (d (ap (λ (g : Found). g.at) (rw z at k.is)))
         go (some l) z = (l, refl)
 
-    pub not_there : f.at ≡ 0 → located n w (lot_rows (standing n w) []) ≡ Refused 6
-    not_there e = refusing n w (lot_rows (standing n w) []) 6 (behind w k.contents k.size k.reads (lot_rows (standing n w) []) 6 (inl (rw (k.reads, absent e) refl, refl)))
+    pub not_there : f.at ≡ 0 → located n w (lot_rows (standing n w) []) ≡ Err refusal.NoLot
+    not_there e = refusing n w (lot_rows (standing n w) []) refusal.NoLot (behind w k.contents k.size k.reads (lot_rows (standing n w) []) refusal.NoLot (inl (rw (k.reads, absent e) refl, refl)))
 
-    pub there : f.at ≢ 0 → located n w (lot_rows (standing n w) []) ≡ At f
+    pub there : f.at ≢ 0 → located n w (lot_rows (standing n w) []) ≡ Ok f
     there d =
         let l = present d in
         let is : f ≡ found n (some l.0) (last_below n 0 k.contents.lots) (records_of k.contents.lots) = rw l.1 at k.is in
         finding n w (lot_rows (standing n w) []) f (all_behind w k.contents k.size k.reads (lot_rows (standing n w) []) (rw (k.reads, l.1) refl, tt)) (rw (k.reads, l.1) (sym is))
 
   -- a refusal by rows 1 and 3 is one by rows 1, 3 and 6
-  pub still_refused : (r : ℕ) → located n w [] ≡ Refused r → located n w (lot_rows (standing n w) []) ≡ Refused r
+  pub still_refused : (r : Refusal) → located n w [] ≡ Err r → located n w (lot_rows (standing n w) []) ≡ Err r
   still_refused r e = refusing n w (lot_rows (standing n w) []) r (first_append (sheet_rows w []) (lot_rows (standing n w) []) r (refused_first n w [] r e))
 
-  pub with_lot : (f : Found) → located n w (lot_rows (standing n w) []) ≡ At f → WithLot n w f
+  pub with_lot : (f : Found) → located n w (lot_rows (standing n w) []) ≡ Ok f → WithLot n w f
   with_lot f e =
       let x = found_by n w (lot_rows (standing n w) []) f e in
       let s = some_value (read w) x.0.1.0 in

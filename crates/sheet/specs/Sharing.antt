@@ -3,8 +3,10 @@ use Rattle.std.specs.Prelude.{ℕ, ◌+◌, ◌<◌, ◌≡◌, true, List, leng
 use Rattle.std.proofs.Math.Option.{Option, some}
 use Rattle.sheet.specs.declared.survey.Surveyed.{Surveyed}
 use Rattle.sheet.specs.declared.survey.Surveyed.TheVariants as survey
-use Rattle.sheet.specs.declared.locating.Located.{Located}
-use Rattle.sheet.specs.declared.locating.Located.TheVariants as locating
+use Rattle.std.specs.declared.result.Result.{Result}
+use Rattle.std.specs.declared.result.Result.TheVariants.{Ok, Err}
+use Rattle.plan.specs.declared.refusal.Refusal.{Refusal}
+use Rattle.sheet.specs.declared.survey.Found.{Found}
 use Rattle.sheetmodel.specs.Layout.{size_ok, word, offices}
 use Rattle.sheetmodel.specs.Contents.{Lot}
 use Rattle.sheetmodel.specs.Offices.{office, held}
@@ -32,6 +34,6 @@ Counted survey.Corrupt o h = Unit
 Counted (survey.Intact f) o h = (ls : List Lot) × (o ≡ some ls) × HeldBy ls h
 
 -- and where no row refuses, what each office holds of the sheet's
-abbrev pub CountedOn : List ℕ → Located → List ℕ → Type 0
-CountedOn w (locating.Refused n) h = Unit
-CountedOn w (locating.At f) h = HeldBy (contents w).lots h
+abbrev pub CountedOn : List ℕ → Result Found Refusal → List ℕ → Type 0
+CountedOn w (Err r) h = Unit
+CountedOn w (Ok f) h = HeldBy (contents w).lots h

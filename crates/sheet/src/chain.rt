@@ -9,7 +9,6 @@ ghost use Rattle.sheetmodel.specs.Rows.{is_some};
 ghost use Rattle.sheet.specs.Survey.{Sized, is_inspection, is_free, tested, chain_of, all_units, newer_part, free_of};
 
 use crate::layout::{FIRST_FREE, FREE_TAG, NEXT_UNUSED};
-use crate::progress::is_undecided;
 use crate::record::{field_of, record_at};
 use plan::Counts;
 
@@ -139,7 +138,7 @@ fn inspections(
             match inspections(sheet, first, plan, lot, test, next, below) {
                 Chain::Corrupt => Chain::Corrupt,
                 Chain::Whole(older, older_blanks) => {
-                    if !is_undecided(plan::earliest(plan, older)) {
+                    if !plan::earliest(plan, older).goes_on() {
                         return Chain::Corrupt;
                     }
                     Chain::Whole(all_units(older, newer), older_blanks + blanks)
@@ -185,7 +184,7 @@ fn in_first_stage(
         Part::Whole(newer, blanks, next) => match whole_chain(sheet, first, plan, lot, test, next) {
             Chain::Corrupt => Chain::Corrupt,
             Chain::Whole(older, older_blanks) => {
-                if !is_undecided(plan::earliest(plan, older)) {
+                if !plan::earliest(plan, older).goes_on() {
                     return Chain::Corrupt;
                 }
                 Chain::Whole(all_units(older, newer), older_blanks + blanks)
@@ -208,7 +207,7 @@ pub fn lot_inspections(
     ensures { result ≡ chain_of (undecided_before (stages plan.now)) (read_inspections first sheet.now lot (serial_at sheet.now newest) newest) }
 {
     if newest == 0 {
-        return Chain::Whole(plan::no_units(), 0);
+        return Chain::Whole(Counts::none(), 0);
     }
     if !is_used(sheet, first, newest) {
         return Chain::Corrupt;

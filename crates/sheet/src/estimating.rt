@@ -5,11 +5,11 @@ ghost use Rattle.plan.specs.Counts.{units};
 ghost use Rattle.sheet.specs.Estimating.{units_of_class, without_unit, evidence_counts};
 
 use crate::layout::STAGE_COUNT;
-use crate::locating::{Located, locate_lot};
-use crate::progress::{answer_to, is_undecided};
+use crate::locating::locate_lot;
+use crate::progress::answer_to;
 use crate::record::field_of;
-use plan::Counts;
-use sheetmodel::{Estimate, Estimated};
+use plan::{Counts, Refusal};
+use sheetmodel::Estimate;
 
 // One unit less of a class.
 fn without_unit(class: u32, c: Counts) -> Counts
@@ -34,33 +34,29 @@ fn evidence(last: u32, c: Counts) -> Counts
     requires { (units c ≤ 1000) × (1 ≤ units_of_class last c) }
     ensures { result ≡ evidence_counts last c }
 {
-    if plan::units(c) == 1 {
+    if c.units() == 1 {
         return c;
     }
     without_unit(last, c)
 }
 
 // A decided lot has a newest unit.
-pub fn estimate(sheet: &[u32], lot: u32) -> Estimated
+pub fn estimate(sheet: &[u32], lot: u32) -> Result<Estimate, Refusal>
     ensures { result ≡ (estimate lot sheet.now).reply }
 {
-    match locate_lot(sheet, lot) {
-        Located::Refused(n) => Estimated::Refused(n),
-        Located::At(f) => {
-            if is_undecided(answer_to(sheet, f.counts)) {
-                return Estimated::Refused(10);
-            }
-            if 1 < sheet[STAGE_COUNT] {
-                return Estimated::Refused(15);
-            }
-            let newest = field_of(sheet, f.at, 2);
-            let c = evidence(field_of(sheet, newest, 0), f.counts);
-            Estimated::Estimate(Estimate {
-                good: c.good as u64,
-                marginal: c.marginal as u64,
-                bad: c.bad as u64,
-                over: plan::units(c) as u64,
-            })
-        }
+    let found = locate_lot(sheet, lot)?;
+    if answer_to(sheet, found.counts).goes_on() {
+        return Err(Refusal::Undecided);
     }
+    if 1 < sheet[STAGE_COUNT] {
+        return Err(Refusal::SeveralStages);
+    }
+    let newest = field_of(sheet, found.at, 2);
+    let c = evidence(field_of(sheet, newest, 0), found.counts);
+    Ok(Estimate {
+        good: u64::from(c.good),
+        marginal: u64::from(c.marginal),
+        bad: u64::from(c.bad),
+        over: u64::from(c.units()),
+    })
 }

@@ -13,7 +13,7 @@ use crate::layout::{
 };
 use crate::offices::given_shares_fit;
 use crate::size::size_ok;
-use sheetmodel::Done;
+use plan::Refusal;
 
 // The words before the plan.
 fn put_first_words(sheet: &mut [u32], stages: u32)
@@ -82,22 +82,22 @@ fn put_shares(sheet: &mut [u32], shares: [u32; 16])
     }
 }
 
-pub fn fresh(sheet: &mut [u32], plan: &[u32], shares: &[u32; 16]) -> Done
+pub fn fresh(sheet: &mut [u32], plan: &[u32], shares: &[u32; 16]) -> Result<(), Refusal>
     ensures value { result ≡ (fresh plan.now shares.now sheet.old).reply }
     ensures sheet_after { sheet.new ≡ (fresh plan.now shares.now sheet.old).words }
 {
     if !size_ok(sheet) {
-        return Done::Refused(1);
+        return Err(Refusal::Size);
     }
     if !plan::admitted(plan) {
-        return Done::Refused(2);
+        return Err(Refusal::Plan);
     }
     if !given_shares_fit(sheet, shares) {
-        return Done::Refused(18);
+        return Err(Refusal::Shares);
     }
     put_first_words(sheet, (plan.len() / 5) as u32);
     put_zeros(sheet);
     put_plan(sheet, plan);
     put_shares(sheet, *shares);
-    Done::Ok
+    Ok(())
 }

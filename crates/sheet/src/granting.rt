@@ -11,13 +11,7 @@ ghost use Rattle.sheetmodel.specs.Layout.{least_size};
 use crate::layout::{FIRST_FREE, NEXT_UNUSED};
 use crate::offices::may_take;
 use crate::record::{field_of, record_count};
-
-// A record that is needed: refused, or granted.
-#[derive(Clone, Copy)]
-pub enum Grant {
-    Refused(u32),
-    Record,
-}
+use plan::Refusal;
 
 // Is no record free or unused?
 fn is_full(sheet: &[u32]) -> bool
@@ -31,17 +25,17 @@ fn is_full(sheet: &[u32]) -> bool
 }
 
 // The rows about a record that is needed for a lot, by what each office holds.
-pub fn grant_record(sheet: &[u32], held: &[u32; 16], lot: u32) -> Grant
+pub fn grant_record(sheet: &[u32], held: &[u32; 16], lot: u32) -> Result<(), Refusal>
     requires { WholeSheet sheet.now × HeldBy (contents sheet.now).lots held.now }
     ensures { result ≡ grant_by (record_rows (full sheet.now) (held_back lot sheet.now)) }
 {
     if is_full(sheet) {
-        return Grant::Refused(11);
+        return Err(Refusal::Full);
     }
     if !may_take(sheet, held, lot) {
-        return Grant::Refused(19);
+        return Err(Refusal::HeldBack);
     }
-    Grant::Record
+    Ok(())
 }
 
 pub fn new_record(sheet: &[u32]) -> u32

@@ -30,5 +30,5 @@ pub use fresh_sheet::fresh;
 pub use inspecting::inspect;
 pub use looking::{look, tally};
 pub use opening::open;
-pub use sheetmodel::{Done, Estimate, Estimated, Looked, Shown, Tallied, Totals};
+pub use sheetmodel::{Estimate, Shown, Totals};
 pub use striking::strike;

@@ -10,51 +10,41 @@ use crate::layout::FIRST_RECORD;
 use crate::offices::shares_fit;
 use crate::size::size_ok;
 use crate::survey::{Found, Surveyed, survey};
-
-// Refused, or what is found for the number.
-#[derive(Clone, Copy)]
-pub enum Located {
-    Refused(u32),
-    At(Found),
-}
+use plan::Refusal;
 
 // Rows 1 and 3; `held` takes what each office holds.
-pub fn locate_and_count(sheet: &[u32], lot: u32, held: &mut [u32; 16]) -> Located
+pub fn locate_and_count(sheet: &[u32], lot: u32, held: &mut [u32; 16]) -> Result<Found, Refusal>
     requires { held.old ≡ replicate offices 0 }
     ensures value { result ≡ located lot sheet.now [] }
     ensures counted_on { CountedOn sheet.now result held.new }
 {
     if !size_ok(sheet) {
-        return Located::Refused(1);
+        return Err(Refusal::Size);
     }
     if !shares_fit(sheet) {
-        return Located::Refused(3);
+        return Err(Refusal::Corrupt);
     }
     match survey(sheet, FIRST_RECORD, lot, held) {
-        Surveyed::Corrupt => Located::Refused(3),
-        Surveyed::Intact(f) => Located::At(f),
+        Surveyed::Corrupt => Err(Refusal::Corrupt),
+        Surveyed::Intact(f) => Ok(f),
     }
 }
 
 // Rows 1, 3 and 6; `held` takes what each office holds.
-pub fn locate_lot_and_count(sheet: &[u32], lot: u32, held: &mut [u32; 16]) -> Located
+pub fn locate_lot_and_count(sheet: &[u32], lot: u32, held: &mut [u32; 16]) -> Result<Found, Refusal>
     requires { held.old ≡ replicate offices 0 }
     ensures value { result ≡ located lot sheet.now (lot_rows (standing lot sheet.now) []) }
     ensures counted_on { CountedOn sheet.now result held.new }
 {
-    match locate_and_count(sheet, lot, held) {
-        Located::Refused(n) => Located::Refused(n),
-        Located::At(f) => {
-            if f.at == 0 {
-                return Located::Refused(6);
-            }
-            Located::At(f)
-        }
+    let found = locate_and_count(sheet, lot, held)?;
+    if found.at == 0 {
+        return Err(Refusal::NoLot);
     }
+    Ok(found)
 }
 
 // Rows 1 and 3, for calls that need no record.
-pub fn locate(sheet: &[u32], lot: u32) -> Located
+pub fn locate(sheet: &[u32], lot: u32) -> Result<Found, Refusal>
     ensures { result ≡ located lot sheet.now [] }
 {
     let mut held = [0u32; 16];
@@ -62,7 +52,7 @@ pub fn locate(sheet: &[u32], lot: u32) -> Located
 }
 
 // Rows 1, 3 and 6, for calls that need no record.
-pub fn locate_lot(sheet: &[u32], lot: u32) -> Located
+pub fn locate_lot(sheet: &[u32], lot: u32) -> Result<Found, Refusal>
     ensures { result ≡ located lot sheet.now (lot_rows (standing lot sheet.now) []) }
 {
     let mut held = [0u32; 16];

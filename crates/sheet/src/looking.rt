@@ -3,37 +3,34 @@ ghost use Rattle.std.specs.Prelude.{◌≡◌};
 ghost use Rattle.sheetmodel.specs.Calls.{look, tally};
 
 use crate::layout::{ACCEPTED_LOTS, BAD_UNITS, GOOD_UNITS, MARGINAL_UNITS, REJECTED_LOTS};
-use crate::locating::{Located, locate, locate_lot};
+use crate::locating::{locate, locate_lot};
 use crate::progress::answer_to;
-use sheetmodel::{Looked, Shown, Tallied, Totals};
+use plan::Refusal;
+use sheetmodel::{Shown, Totals};
 
-pub fn look(sheet: &[u32], lot: u32) -> Looked
+pub fn look(sheet: &[u32], lot: u32) -> Result<Shown, Refusal>
     ensures { result ≡ (look lot sheet.now).reply }
 {
-    match locate_lot(sheet, lot) {
-        Located::Refused(n) => Looked::Refused(n),
-        Located::At(f) => Looked::Shown(Shown {
-            answer: answer_to(sheet, f.counts),
-            units: plan::units(f.counts),
-            good: f.counts.good,
-            marginal: f.counts.marginal,
-            bad: f.counts.bad,
-            blanks: f.blanks,
-        }),
-    }
+    let found = locate_lot(sheet, lot)?;
+    Ok(Shown {
+        answer: answer_to(sheet, found.counts),
+        units: found.counts.units(),
+        good: found.counts.good,
+        marginal: found.counts.marginal,
+        bad: found.counts.bad,
+        blanks: found.blanks,
+    })
 }
 
-pub fn tally(sheet: &[u32]) -> Tallied
+pub fn tally(sheet: &[u32]) -> Result<Totals, Refusal>
     ensures { result ≡ (tally sheet.now).reply }
 {
-    match locate(sheet, 0) {
-        Located::Refused(n) => Tallied::Refused(n),
-        Located::At(_) => Tallied::Totals(Totals {
-            accepted: sheet[ACCEPTED_LOTS],
-            rejected: sheet[REJECTED_LOTS],
-            good: sheet[GOOD_UNITS],
-            marginal: sheet[MARGINAL_UNITS],
-            bad: sheet[BAD_UNITS],
-        }),
-    }
+    locate(sheet, 0)?;
+    Ok(Totals {
+        accepted: sheet[ACCEPTED_LOTS],
+        rejected: sheet[REJECTED_LOTS],
+        good: sheet[GOOD_UNITS],
+        marginal: sheet[MARGINAL_UNITS],
+        bad: sheet[BAD_UNITS],
+    })
 }

@@ -4,7 +4,6 @@ ghost use Rattle.plan.specs.Plan.{stages, admitted};
 ghost use Rattle.plan.specs.Counts.{units};
 ghost use Rattle.plan.specs.Stopping.{earliest};
 ghost use Rattle.sheetmodel.specs.Layout.{least_size, plan_words};
-ghost use Rattle.sheetmodel.specs.Read.{undecided};
 
 use crate::header::plan_of;
 use plan::{Answer, Counts};
@@ -14,14 +13,4 @@ pub fn answer_to(sheet: &[u32], c: Counts) -> Answer
     ensures { result ≡ earliest (stages (plan_words sheet.now)) c }
 {
     plan::earliest(plan_of(sheet), c)
-}
-
-pub fn is_undecided(answer: Answer) -> bool
-    ensures { result ≡ undecided answer }
-{
-    match answer {
-        Answer::GoOn => true,
-        Answer::Accept => false,
-        Answer::Reject => false,
-    }
 }

@@ -2,22 +2,18 @@
 ghost use Rattle.std.specs.Prelude.{◌≡◌};
 ghost use Rattle.sheetmodel.specs.Calls.{strike};
 
-use crate::locating::{Located, locate_lot};
+use crate::locating::locate_lot;
 use crate::writing::remove_newest;
-use sheetmodel::Done;
+use plan::Refusal;
 
-pub fn strike(sheet: &mut [u32], lot: u32) -> Done
+pub fn strike(sheet: &mut [u32], lot: u32) -> Result<(), Refusal>
     ensures value { result ≡ (strike lot sheet.old).reply }
     ensures sheet_after { sheet.new ≡ (strike lot sheet.old).words }
 {
-    match locate_lot(sheet, lot) {
-        Located::Refused(n) => Done::Refused(n),
-        Located::At(f) => {
-            if plan::units(f.counts) == 0 {
-                return Done::Refused(9);
-            }
-            remove_newest(sheet, f.at);
-            Done::Ok
-        }
+    let found = locate_lot(sheet, lot)?;
+    if found.counts.units() == 0 {
+        return Err(Refusal::NoUnit);
     }
+    remove_newest(sheet, found.at);
+    Ok(())
 }

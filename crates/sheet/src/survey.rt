@@ -54,7 +54,7 @@ fn with_lot_found(sought: u32, f: Found, at: u32, number: u32, c: Counts, blanks
     requires { (units c ≤ 1000) × (f.used + (1 + units c) ≤ 4294967295) }
     ensures { result ≡ with_lot_found sought f at number c blanks }
 {
-    let used = f.used + (1 + plan::units(c));
+    let used = f.used + (1 + c.units());
     let mut next = f;
     next.used = used;
     if number < sought {
@@ -88,7 +88,7 @@ fn lots(
         before: 0,
         at: 0,
         blanks: 0,
-        counts: plan::no_units(),
+        counts: Counts::none(),
     };
     let mut left = record_count(sheet);
     let mut above: u32 = 0;
@@ -107,7 +107,7 @@ fn lots(
             }
             Chain::Whole(c, blanks) => {
                 f = with_lot_found(sought, f, at, r.value, c, blanks);
-                count_lot(held, r.value, plan::units(c));
+                count_lot(held, r.value, c.units());
                 above = r.value;
                 at = r.next;
                 left -= 1;

@@ -55,6 +55,6 @@ pub fn remove_lot(sheet: &mut [u32], at: u32, before: u32, answer: Answer, c: Co
     let newest = field_of(sheet, at, 2);
     add_totals(sheet, answer, c);
     put_field(sheet, before, 1, next);
-    free_inspections(sheet, at, plan::units(c), newest);
+    free_inspections(sheet, at, c.units(), newest);
     free_record(sheet, at);
 }

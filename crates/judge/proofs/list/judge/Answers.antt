@@ -5,28 +5,29 @@ use mathlib.Core.Bool.{true, false, not}
 use mathlib.Core.Logic.{inl, inr}
 use mathlib.Core.List.{List}
 use mathlib.Core.Path.{◌≡◌, refl, ap, sym, ◌∙◌}
+use Rattle.std.specs.declared.result.Result.TheVariants.{Ok, Err}
+use Rattle.plan.specs.declared.refusal.Refusal.TheVariants.{Plan, Class}
 use Rattle.plan.specs.Plan.{admitted}
 use Rattle.plan.specs.Sample.{are_classes}
 use Rattle.plan.proofs.Promise.{shape}
 use Rattle.plan.proofs.Refusals.{first_refusals}
-use Rattle.judge.specs.declared.list.Judged.TheVariants.{Stops, Refused}
 use Rattle.judge.specs.Judge.{refusals, judgement, judged}
 use Rattle.judge.specs.Run.{semi_stop}
 use Rattle.judge.proofs.FromFull.{in_plan, semi_is}
 use Rattle.judge.proofs.list.judge.Goals as goal
 
 module _ (w xs : List ℕ) where
-  no_plan : admitted w ≡ false → Refused 2 ≡ judged w xs
+  no_plan : admitted w ≡ false → Err Plan ≡ judged w xs
   unfolding judged
-  no_plan e = sym (first_refusals.refuses _ Refused (refusals w xs) (Stops (judgement w xs)) 2 (inl (ap not e, refl)))
+  no_plan e = sym (first_refusals.refuses _ Err (refusals w xs) (Ok (judgement w xs)) Plan (inl (ap not e, refl)))
 
-  no_class : admitted w ≡ true → are_classes xs ≡ false → Refused 7 ≡ judged w xs
+  no_class : admitted w ≡ true → are_classes xs ≡ false → Err Class ≡ judged w xs
   unfolding judged
-  no_class e f = sym (first_refusals.refuses _ Refused (refusals w xs) (Stops (judgement w xs)) 7 (inr (ap not e, inl (ap not f, refl))))
+  no_class e f = sym (first_refusals.refuses _ Err (refusals w xs) (Ok (judgement w xs)) Class (inr (ap not e, inl (ap not f, refl))))
 
-  granted : admitted w ≡ true → are_classes xs ≡ true → Stops (judgement w xs) ≡ judged w xs
+  granted : admitted w ≡ true → are_classes xs ≡ true → Ok (judgement w xs) ≡ judged w xs
   unfolding judged
-  granted e f = sym (first_refusals.grants _ Refused (refusals w xs) (Stops (judgement w xs)) (ap not e, (ap not f, tt)))
+  granted e f = sym (first_refusals.grants _ Err (refusals w xs) (Ok (judgement w xs)) (ap not e, (ap not f, tt)))
 
 pub returns-then-not-admitted : goal.returns-then-not-admitted
 returns-then-not-admitted c =

@@ -12,11 +12,10 @@ use Rattle.plan.specs.declared.ways.StageWay.TheVariants.{Full}
 use Rattle.plan.specs.declared.ways.Way.TheVariants.{Staged}
 use Rattle.plan.specs.Plan.{stages, end_from, admitted}
 use Rattle.plan.specs.Counts.{units, counts}
-use Rattle.plan.specs.Stopping.{answer}
+use Rattle.plan.specs.Stopping.{goes_on, answer}
 use Rattle.plan.specs.Promise.{SameStage}
 use Rattle.plan.proofs.Promise.{shape, counting}
 use Rattle.judge.specs.Laws.{rule_of}
-use Rattle.judge.specs.Run.{goes_on}
 use Rattle.judge.proofs.Runs.{run_counts, run_length, units_to}
 use Rattle.judge.proofs.Stops.{at_none}
 use Rattle.judge.proofs.Halves.{is_on, run_end, stage_steady, stage_between}
@@ -47,7 +46,7 @@ asked w xs j d a b counted told e = sym (e ∙ ap goes_on (told ∙ ap (answer (
 pub loop-i-init : goal.loop-i-init
 loop-i-init c = (
   omega arith,
-  c.no_units-c.ensures ∙ sym counting.empty,
+  c.none-c.ensures ∙ sym counting.empty,
   λ z l. let none : z ≡ 0 = omega arith in rw none (at_none c.args.plan.now c.requires (Staged Full) c.args.list.now),
 )
 
@@ -70,53 +69,53 @@ pub slice_bounds-count_run-count : goal.slice_bounds-count_run-count
 slice_bounds-count_run-count c =
     let l = c.loop-i in
     let xs = c.args.list.now in
-    let t = turn c.args.plan.now c.requires xs l.i l.invariant.0 l.invariant.2 c.minimum-end.result c.loop-i-test.true
-    (c.minimum-end.ensures ∙ ap (λ (n : ℕ). min n (length xs)) c.end_from.ensures) in
+    let t = turn c.args.plan.now c.requires xs l.i l.invariant.0 l.invariant.2 c.min-end.result c.loop-i-test.true
+    (c.min-end.ensures ∙ ap (λ (n : ℕ). min n (length xs)) c.end_from.ensures) in
     omega (arith, t.begins)
 
 pub slice_bounds-count_run-start : goal.slice_bounds-count_run-start
 slice_bounds-count_run-start c =
     let l = c.loop-i in
     let xs = c.args.list.now in
-    let t = turn c.args.plan.now c.requires xs l.i l.invariant.0 l.invariant.2 c.minimum-end.result c.loop-i-test.true
-    (c.minimum-end.ensures ∙ ap (λ (n : ℕ). min n (length xs)) c.end_from.ensures) in
+    let t = turn c.args.plan.now c.requires xs l.i l.invariant.0 l.invariant.2 c.min-end.result c.loop-i-test.true
+    (c.min-end.ensures ∙ ap (λ (n : ℕ). min n (length xs)) c.end_from.ensures) in
     omega (arith, t.begins, t.inside)
 
 pub slice_bounds-count_run-end : goal.slice_bounds-count_run-end
 slice_bounds-count_run-end c =
     let l = c.loop-i in
     let xs = c.args.list.now in
-    let t = turn c.args.plan.now c.requires xs l.i l.invariant.0 l.invariant.2 c.minimum-end.result c.loop-i-test.true
-    (c.minimum-end.ensures ∙ ap (λ (n : ℕ). min n (length xs)) c.end_from.ensures) in
+    let t = turn c.args.plan.now c.requires xs l.i l.invariant.0 l.invariant.2 c.min-end.result c.loop-i-test.true
+    (c.min-end.ensures ∙ ap (λ (n : ℕ). min n (length xs)) c.end_from.ensures) in
     t.inside
 
 pub count_run-after-requires : goal.count_run-after-requires
 count_run-after-requires c =
     let l = c.loop-i in
     let xs = c.args.list.now in
-    let t = turn c.args.plan.now c.requires xs l.i l.invariant.0 l.invariant.2 c.minimum-end.result c.loop-i-test.true
-    (c.minimum-end.ensures ∙ ap (λ (n : ℕ). min n (length xs)) c.end_from.ensures) in
+    let t = turn c.args.plan.now c.requires xs l.i l.invariant.0 l.invariant.2 c.min-end.result c.loop-i-test.true
+    (c.min-end.ensures ∙ ap (λ (n : ℕ). min n (length xs)) c.end_from.ensures) in
     let u = ap units l.invariant.1 ∙ units_to xs l.i l.invariant.0 in
-    omega (arith, run_length xs l.i c.minimum-end.result (omega (arith, t.begins)) t.inside, t.in_plan, t.begins)
+    omega (arith, run_length xs l.i c.min-end.result (omega (arith, t.begins)) t.inside, t.in_plan, t.begins)
 
 pub answer-requires : goal.answer-requires
 answer-requires c =
     let l = c.loop-i in
     let xs = c.args.list.now in
-    let t = turn c.args.plan.now c.requires xs l.i l.invariant.0 l.invariant.2 c.minimum-end.result c.loop-i-test.true
-    (c.minimum-end.ensures ∙ ap (λ (n : ℕ). min n (length xs)) c.end_from.ensures) in
-    let counted = run_counts xs l.i c.minimum-end.result (omega (arith, t.begins)) l.c c.count_run-after.result l.invariant.1 c.count_run-after.ensures in
-    ((shape c.args.plan.now c.requires).thousand_units, omega (arith, ap units counted ∙ units_to xs c.minimum-end.result t.inside, t.in_plan))
+    let t = turn c.args.plan.now c.requires xs l.i l.invariant.0 l.invariant.2 c.min-end.result c.loop-i-test.true
+    (c.min-end.ensures ∙ ap (λ (n : ℕ). min n (length xs)) c.end_from.ensures) in
+    let counted = run_counts xs l.i c.min-end.result (omega (arith, t.begins)) l.c c.count_run-after.result l.invariant.1 c.count_run-after.ensures in
+    ((shape c.args.plan.now c.requires).thousand_units, omega (arith, ap units counted ∙ units_to xs c.min-end.result t.inside, t.in_plan))
 
 pub before_stop-requires : goal.before_stop-requires
 before_stop-requires c =
     let l = c.loop-i in
     let xs = c.args.list.now in
-    let t = turn c.args.plan.now c.requires xs l.i l.invariant.0 l.invariant.2 c.minimum-end.result c.loop-i-test.true
-    (c.minimum-end.ensures ∙ ap (λ (n : ℕ). min n (length xs)) c.end_from.ensures) in
-    let counted = run_counts xs l.i c.minimum-end.result (omega (arith, t.begins)) l.c c.count_run-after.result l.invariant.1 c.count_run-after.ensures in
-    let stopped = asked c.args.plan.now xs c.minimum-end.result _ _ _ counted c.answer.ensures c.goes_on.ensures ∙ c.if-not-goes_on.true in
-    (c.requires, stage_between c.args.plan.now (Staged Full) xs c.requires l.i l.invariant.2 c.minimum-end.result t.same_stage t.begins t.inside t.in_plan l.c l.invariant.1 stopped)
+    let t = turn c.args.plan.now c.requires xs l.i l.invariant.0 l.invariant.2 c.min-end.result c.loop-i-test.true
+    (c.min-end.ensures ∙ ap (λ (n : ℕ). min n (length xs)) c.end_from.ensures) in
+    let counted = run_counts xs l.i c.min-end.result (omega (arith, t.begins)) l.c c.count_run-after.result l.invariant.1 c.count_run-after.ensures in
+    let stopped = asked c.args.plan.now xs c.min-end.result _ _ _ counted c.answer.ensures c.goes_on.ensures ∙ c.if-not-goes_on.true in
+    (c.requires, stage_between c.args.plan.now (Staged Full) xs c.requires l.i l.invariant.2 c.min-end.result t.same_stage t.begins t.inside t.in_plan l.c l.invariant.1 stopped)
 
 pub returns-then-not-goes_on : goal.returns-then-not-goes_on
 returns-then-not-goes_on c = c.before_stop.ensures
@@ -125,21 +124,21 @@ pub loop-i-preserved : goal.loop-i-preserved
 loop-i-preserved c =
     let l = c.loop-i in
     let xs = c.args.list.now in
-    let t = turn c.args.plan.now c.requires xs l.i l.invariant.0 l.invariant.2 c.minimum-end.result c.loop-i-test.true
-    (c.minimum-end.ensures ∙ ap (λ (n : ℕ). min n (length xs)) c.end_from.ensures) in
-    let counted = run_counts xs l.i c.minimum-end.result (omega (arith, t.begins)) l.c c.count_run-after.result l.invariant.1 c.count_run-after.ensures in
-    let on = is_on _ (asked c.args.plan.now xs c.minimum-end.result _ _ _ counted c.answer.ensures c.goes_on.ensures ∙ c.if-not-goes_on.false) in (
+    let t = turn c.args.plan.now c.requires xs l.i l.invariant.0 l.invariant.2 c.min-end.result c.loop-i-test.true
+    (c.min-end.ensures ∙ ap (λ (n : ℕ). min n (length xs)) c.end_from.ensures) in
+    let counted = run_counts xs l.i c.min-end.result (omega (arith, t.begins)) l.c c.count_run-after.result l.invariant.1 c.count_run-after.ensures in
+    let on = is_on _ (asked c.args.plan.now xs c.min-end.result _ _ _ counted c.answer.ensures c.goes_on.ensures ∙ c.if-not-goes_on.false) in (
       t.inside,
       counted,
-      λ z k. stage_steady c.args.plan.now (Staged Full) xs c.requires l.i l.invariant.2 c.minimum-end.result t.same_stage t.inside z c.minimum-end.result k (omega arith) on,
+      λ z k. stage_steady c.args.plan.now (Staged Full) xs c.requires l.i l.invariant.2 c.min-end.result t.same_stage t.inside z c.min-end.result k (omega arith) on,
     )
 
 pub loop-i-smaller : goal.loop-i-smaller
 loop-i-smaller c =
     let l = c.loop-i in
     let xs = c.args.list.now in
-    let t = turn c.args.plan.now c.requires xs l.i l.invariant.0 l.invariant.2 c.minimum-end.result c.loop-i-test.true
-    (c.minimum-end.ensures ∙ ap (λ (n : ℕ). min n (length xs)) c.end_from.ensures) in
+    let t = turn c.args.plan.now c.requires xs l.i l.invariant.0 l.invariant.2 c.min-end.result c.loop-i-test.true
+    (c.min-end.ensures ∙ ap (λ (n : ℕ). min n (length xs)) c.end_from.ensures) in
     omega (arith, t.begins, t.inside)
 
 pub returns : goal.returns

@@ -4,7 +4,7 @@ use native.Mathlib.Omega.{arith}
 use mathlib.Core.Path.{sym, ap, ◌∙◌}
 use Rattle.plan.specs.Counts.{counts_after}
 use Rattle.plan.proofs.Promise.{shape}
-use Rattle.judge.specs.Run.{goes_on}
+use Rattle.plan.specs.Stopping.{goes_on}
 use Rattle.judge.proofs.Runs.{run, run_length}
 use Rattle.judge.proofs.Halves.{is_on, Halved, halved, stop_found}
 use Rattle.judge.proofs.stop.before_stop.Goals as goal

@@ -27,7 +27,7 @@ before_stop-sooner-requires c =
     c.accept_limit.ensures ∙ ap (λ (n : ℕ). accept_limit 0 (stages s.plan.now) n (nongood s.before)) c.units-end.ensures in (
       c.requires.0,
       rw c.units-end.ensures
-          (earliest_between c.args.plan.now c.requires.0 c.args.list.now c.args.full c.requires.2 c.args.before c.requires.3 _ c.no_units.ensures
+          (earliest_between c.args.plan.now c.requires.0 c.args.list.now c.args.full c.requires.2 c.args.before c.requires.3 _ c.none.ensures
           (omega (arith, limit_is, c.if-accept_limit-before.false))),
     )
 

@@ -2,4 +2,4 @@
 use Rattle.judge.proofs.stop.no_stop.Goals as goal
 
 pub returns : goal.returns
-returns c = rw c.no_units.ensures
+returns c = rw c.none.ensures

@@ -18,15 +18,15 @@ returns-then-list-i c =
 
 pub answer-requires : goal.answer-requires
 answer-requires c =
-    let next : record { answer = answer c.args.way (stages c.args.plan.now) c.add_units-c.result; counts = c.add_units-c.result } ≡ stop_of c.args.way c.args.plan.now c.args.list.now = stop_next c.args.plan.now c.args.way c.args.list.now c.requires.0 c.args.before c.requires.1 (omega (arith, c.units-i.ensures, c.if-list-i.false))
-    c.add_units-c.result (rw (sym c.units-i.ensures) c.add_units-c.ensures) in
+    let next : record { answer = answer c.args.way (stages c.args.plan.now) c.with-c.result; counts = c.with-c.result } ≡ stop_of c.args.way c.args.plan.now c.args.list.now = stop_next c.args.plan.now c.args.way c.args.list.now c.requires.0 c.args.before c.requires.1 (omega (arith, c.units-i.ensures, c.if-list-i.false))
+    c.with-c.result (rw (sym c.units-i.ensures) c.with-c.ensures) in
     let h = (shape c.args.plan.now c.requires.0).thousand_units in
     (h, omega (arith, h, ap at next, stop_within c.args.plan.now c.requires.0 c.args.way no_units c.args.list.now))
 
 pub returns : goal.returns
 returns c =
-    let next : record { answer = answer c.args.way (stages c.args.plan.now) c.add_units-c.result; counts = c.add_units-c.result } ≡ stop_of c.args.way c.args.plan.now c.args.list.now = stop_next c.args.plan.now c.args.way c.args.list.now c.requires.0 c.args.before c.requires.1 (omega (arith, c.units-i.ensures, c.if-list-i.false))
-    c.add_units-c.result (rw (sym c.units-i.ensures) c.add_units-c.ensures) in
+    let next : record { answer = answer c.args.way (stages c.args.plan.now) c.with-c.result; counts = c.with-c.result } ≡ stop_of c.args.way c.args.plan.now c.args.list.now = stop_next c.args.plan.now c.args.way c.args.list.now c.requires.0 c.args.before c.requires.1 (omega (arith, c.units-i.ensures, c.if-list-i.false))
+    c.with-c.result (rw (sym c.units-i.ensures) c.with-c.ensures) in
     rw c.answer.ensures next
 
 pub units-i-requires : goal.units-i-requires
@@ -35,5 +35,5 @@ units-i-requires c = c.requires.1.thousand
 pub overflow_cast-list : goal.overflow_cast-list
 overflow_cast-list c = omega (arith, c.shared_slice_known-3-1.given c.units-i.result)
 
-pub add_units-c-requires : goal.add_units-c-requires
-add_units-c-requires c = omega (arith, c.requires.1.thousand)
+pub with-c-requires : goal.with-c-requires
+with-c-requires c = omega (arith, c.requires.1.thousand)

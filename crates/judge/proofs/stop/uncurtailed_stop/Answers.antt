@@ -10,9 +10,9 @@ use Rattle.plan.specs.declared.ways.Way.TheVariants.{Staged}
 use Rattle.plan.specs.Plan.{stages, end_from, admitted}
 use Rattle.plan.specs.Counts.{units, counts_after}
 use Rattle.plan.proofs.Promise.{shape, promise, counting}
+use Rattle.plan.specs.Stopping.{goes_on}
 use Rattle.judge.specs.declared.stop.Stop.{Stop}
 use Rattle.judge.specs.Judge.{stop_of}
-use Rattle.judge.specs.Run.{goes_on}
 use Rattle.judge.proofs.Runs.{run, run_length}
 use Rattle.judge.proofs.FromFull.{in_plan, uncurtailed_none, uncurtailed_short, uncurtailed_end, end_after}
 use Rattle.judge.proofs.stop.uncurtailed_stop.Goals as goal

@@ -42,15 +42,15 @@ earliest-requires t c =
     c.in-Whole-inspections.older c.in-Whole-inspections.older_blanks (sym c.inspections.ensures ∙ c.in-Whole-inspections.is) in
     ((shape a.plan.now c.requires.1).thousand_units, omega (arith, c.requires.2, c.requires.3, older.0))
 
-pub returns-then-not-is_undecided : goal.returns-then-not-is_undecided
-returns-then-not-is_undecided t c =
+pub returns-then-not-goes_on : goal.returns-then-not-goes_on
+returns-then-not-goes_on t c =
     let a = c.args in
     let newer = newer_chain a.first a.sheet.now a.lot (stages a.plan.now) a.test a.serial a.at c.requires.3 _ (sym c.in-Whole.is ∙ c.newer_part.ensures) in
     let e = c.end_below-below in
     let older = newer
     ∙ older_by a.first a.sheet.now a.lot (stages a.plan.now) a.test _ _ _ e.result e.ensures (Whole c.in-Whole-inspections.older c.in-Whole-inspections.older_blanks)
     (sym c.in-Whole-inspections.is ∙ c.inspections.ensures) in
-    sym (older ∙ rw (ap undecided (sym c.earliest.ensures) ∙ sym c.is_undecided.ensures ∙ c.if-not-is_undecided.true))
+    sym (older ∙ rw (ap undecided (sym c.earliest.ensures) ∙ sym c.goes_on.ensures ∙ c.if-not-goes_on.true))
 
 pub all_units-requires : goal.all_units-requires
 all_units-requires t c =
@@ -84,8 +84,8 @@ returns-in-Corrupt-inspections t c =
     ∙ older_by a.first a.sheet.now a.lot (stages a.plan.now) a.test _ _ _ e.result e.ensures Corrupt
     (sym c.in-Corrupt-inspections.is ∙ c.inspections.ensures))
 
-pub returns-else-not-is_undecided : goal.returns-else-not-is_undecided
-returns-else-not-is_undecided t c =
+pub returns-else-not-goes_on : goal.returns-else-not-goes_on
+returns-else-not-goes_on t c =
     let a = c.args in
     let newer = newer_chain a.first a.sheet.now a.lot (stages a.plan.now) a.test a.serial a.at c.requires.3 _ (sym c.in-Whole.is ∙ c.newer_part.ensures) in
     let e = c.end_below-below in
@@ -93,4 +93,4 @@ returns-else-not-is_undecided t c =
     ∙ older_by a.first a.sheet.now a.lot (stages a.plan.now) a.test _ _ _ e.result e.ensures (Whole c.in-Whole-inspections.older c.in-Whole-inspections.older_blanks)
     (sym c.in-Whole-inspections.is ∙ c.inspections.ensures) in
     rw c.all_units.ensures
-    (sym (older ∙ rw (ap undecided (sym c.earliest.ensures) ∙ sym c.is_undecided.ensures ∙ c.if-not-is_undecided.false)))
+    (sym (older ∙ rw (ap undecided (sym c.earliest.ensures) ∙ sym c.goes_on.ensures ∙ c.if-not-goes_on.false)))

@@ -16,14 +16,14 @@ earliest-requires c =
     c.in-Whole-whole_chain.older c.in-Whole-whole_chain.older_blanks (sym c.whole_chain.ensures ∙ c.in-Whole-whole_chain.is) in
     ((shape a.plan.now c.requires.1).thousand_units, omega (arith, c.requires.2, c.requires.4, older.0))
 
-pub returns-then-not-is_undecided : goal.returns-then-not-is_undecided
-returns-then-not-is_undecided c =
+pub returns-then-not-goes_on : goal.returns-then-not-goes_on
+returns-then-not-goes_on c =
     let a = c.args in
     let newer = newer_chain a.first a.sheet.now a.lot (stages a.plan.now) a.test a.serial a.at c.requires.4 _ (sym c.in-Whole.is ∙ c.newer_part.ensures) in
     let older = newer
     ∙ older_by a.first a.sheet.now a.lot (stages a.plan.now) a.test _ _ _ 0 c.requires.5 (Whole c.in-Whole-whole_chain.older c.in-Whole-whole_chain.older_blanks)
     (sym c.in-Whole-whole_chain.is ∙ c.whole_chain.ensures) in
-    sym (older ∙ rw (ap undecided (sym c.earliest.ensures) ∙ sym c.is_undecided.ensures ∙ c.if-not-is_undecided.true))
+    sym (older ∙ rw (ap undecided (sym c.earliest.ensures) ∙ sym c.goes_on.ensures ∙ c.if-not-goes_on.true))
 
 pub all_units-requires : goal.all_units-requires
 all_units-requires c =
@@ -56,12 +56,12 @@ returns-in-Corrupt-whole_chain c =
     ∙ older_by a.first a.sheet.now a.lot (stages a.plan.now) a.test _ _ _ 0 c.requires.5 Corrupt
     (sym c.in-Corrupt-whole_chain.is ∙ c.whole_chain.ensures))
 
-pub returns-else-not-is_undecided : goal.returns-else-not-is_undecided
-returns-else-not-is_undecided c =
+pub returns-else-not-goes_on : goal.returns-else-not-goes_on
+returns-else-not-goes_on c =
     let a = c.args in
     let newer = newer_chain a.first a.sheet.now a.lot (stages a.plan.now) a.test a.serial a.at c.requires.4 _ (sym c.in-Whole.is ∙ c.newer_part.ensures) in
     let older = newer
     ∙ older_by a.first a.sheet.now a.lot (stages a.plan.now) a.test _ _ _ 0 c.requires.5 (Whole c.in-Whole-whole_chain.older c.in-Whole-whole_chain.older_blanks)
     (sym c.in-Whole-whole_chain.is ∙ c.whole_chain.ensures) in
     rw c.all_units.ensures
-    (sym (older ∙ rw (ap undecided (sym c.earliest.ensures) ∙ sym c.is_undecided.ensures ∙ c.if-not-is_undecided.false)))
+    (sym (older ∙ rw (ap undecided (sym c.earliest.ensures) ∙ sym c.goes_on.ensures ∙ c.if-not-goes_on.false)))

@@ -13,7 +13,7 @@ use Rattle.sheet.proofs.chain.lot_inspections.Goals as goal
 pub returns-then-newest-eq0 : goal.returns-then-newest-eq0
 returns-then-newest-eq0 c =
     let a = c.args in
-    rw c.no_units.ensures (sym (no_inspection a.first a.sheet.now a.lot (stages a.plan.now) a.newest c.if-newest-eq0.true))
+    rw c.none.ensures (sym (no_inspection a.first a.sheet.now a.lot (stages a.plan.now) a.newest c.if-newest-eq0.true))
 
 pub returns-then-not-is_used : goal.returns-then-not-is_used
 returns-then-not-is_used c =

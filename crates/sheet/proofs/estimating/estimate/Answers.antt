@@ -4,6 +4,7 @@ use native.Mathlib.Omega.{arith}
 use Rattle.sheetmodel.specs.Layout.{field, newest}
 use Rattle.sheetmodel.specs.Read.{undecided}
 use Rattle.sheet.specs.Estimating.{evidence_counts}
+use Rattle.std.proofs.lemmas.Result.{err_from_is_err_and}
 use Rattle.sheet.proofs.Sizes.{short_enough}
 use Rattle.sheet.proofs.LocatedFacts.{with_lot}
 use Rattle.sheet.proofs.CallSteps.{long, lot_inside, answer_requires}
@@ -14,57 +15,58 @@ use Rattle.sheet.proofs.estimating.estimate.Goals as goal
 
 pub answer_to-requires : goal.answer_to-requires
 answer_to-requires c =
-    let k = with_lot c.args.lot c.args.sheet.now c.in-At.f (sym c.locate_lot.ensures ∙ c.in-At.is) in
+    let k = with_lot c.args.lot c.args.sheet.now c.in_ok-found.found (sym c.in_ok-found.ensures) in
     answer_requires _ _ _ k
 
-pub returns-then-is_undecided : goal.returns-then-is_undecided
-returns-then-is_undecided c =
-    let k = with_lot c.args.lot c.args.sheet.now c.in-At.f (sym c.locate_lot.ensures ∙ c.in-At.is) in
-    rw (estimate_undecided _ _ _ k (sym (ap undecided c.answer_to.ensures) ∙ sym c.is_undecided.ensures ∙ c.if-is_undecided.true)) refl
+pub returns-then-goes_on : goal.returns-then-goes_on
+returns-then-goes_on c =
+    let k = with_lot c.args.lot c.args.sheet.now c.in_ok-found.found (sym c.in_ok-found.ensures) in
+    rw (estimate_undecided _ _ _ k (sym (ap undecided c.answer_to.ensures) ∙ sym c.goes_on.ensures ∙ c.if-goes_on.true)) refl
 
 pub returns-then-sheet-gt1 : goal.returns-then-sheet-gt1
 returns-then-sheet-gt1 c =
-    let k = with_lot c.args.lot c.args.sheet.now c.in-At.f (sym c.locate_lot.ensures ∙ c.in-At.is) in
-    let decided = sym (ap undecided c.answer_to.ensures) ∙ sym c.is_undecided.ensures ∙ c.if-is_undecided.false in
+    let k = with_lot c.args.lot c.args.sheet.now c.in_ok-found.found (sym c.in_ok-found.ensures) in
+    let decided = sym (ap undecided c.answer_to.ensures) ∙ sym c.goes_on.ensures ∙ c.if-goes_on.false in
     rw (estimate_stages _ _ _ k decided c.if-sheet-gt1.true) refl
 
 pub field_of-newest-requires : goal.field_of-newest-requires
 field_of-newest-requires c =
-    let k = with_lot c.args.lot c.args.sheet.now c.in-At.f (sym c.locate_lot.ensures ∙ c.in-At.is) in
+    let k = with_lot c.args.lot c.args.sheet.now c.in_ok-found.found (sym c.in_ok-found.ensures) in
     (omega (arith, lot_inside _ _ _ k), short_enough c.args.sheet.now k.size)
 
 pub field_of-requires : goal.field_of-requires
 field_of-requires c =
-    let k = with_lot c.args.lot c.args.sheet.now c.in-At.f (sym c.locate_lot.ensures ∙ c.in-At.is) in
-    let decided = sym (ap undecided c.answer_to.ensures) ∙ sym c.is_undecided.ensures ∙ c.if-is_undecided.false in
+    let k = with_lot c.args.lot c.args.sheet.now c.in_ok-found.found (sym c.in_ok-found.ensures) in
+    let decided = sym (ap undecided c.answer_to.ensures) ∙ sym c.goes_on.ensures ∙ c.if-goes_on.false in
     rw c.field_of-newest.ensures (omega (arith, (newest_unit _ _ _ k decided).inside), short_enough c.args.sheet.now k.size)
 
 pub evidence-c-requires : goal.evidence-c-requires
 evidence-c-requires c =
-    let k = with_lot c.args.lot c.args.sheet.now c.in-At.f (sym c.locate_lot.ensures ∙ c.in-At.is) in
-    let decided = sym (ap undecided c.answer_to.ensures) ∙ sym c.is_undecided.ensures ∙ c.if-is_undecided.false in
+    let k = with_lot c.args.lot c.args.sheet.now c.in_ok-found.found (sym c.in_ok-found.ensures) in
+    let decided = sym (ap undecided c.answer_to.ensures) ∙ sym c.goes_on.ensures ∙ c.if-goes_on.false in
     rw (c.field_of.ensures, c.field_of-newest.ensures) (evidence_requires _ _ _ k decided)
 
 pub units-requires : goal.units-requires
 units-requires c =
-    let k = with_lot c.args.lot c.args.sheet.now c.in-At.f (sym c.locate_lot.ensures ∙ c.in-At.is) in
-    let decided = sym (ap undecided c.answer_to.ensures) ∙ sym c.is_undecided.ensures ∙ c.if-is_undecided.false in
-    let counted : c.evidence-c.result ≡ evidence_counts (field c.args.sheet.now (newest c.args.sheet.now c.in-At.f.at) 0) c.in-At.f.counts = rw (sym c.field_of-newest.ensures, sym c.field_of.ensures) c.evidence-c.ensures in
+    let k = with_lot c.args.lot c.args.sheet.now c.in_ok-found.found (sym c.in_ok-found.ensures) in
+    let decided = sym (ap undecided c.answer_to.ensures) ∙ sym c.goes_on.ensures ∙ c.if-goes_on.false in
+    let counted : c.evidence-c.result ≡ evidence_counts (field c.args.sheet.now (newest c.args.sheet.now c.in_ok-found.found.at) 0) c.in_ok-found.found.counts = rw (sym c.field_of-newest.ensures, sym c.field_of.ensures) c.evidence-c.ensures in
     rw counted (evidence_few _ _ _ k decided)
 
-pub returns-in-Refused : goal.returns-in-Refused
-returns-in-Refused c =
-    rw (estimate_refused c.args.lot c.args.sheet.now c.in-Refused.n (sym c.locate_lot.ensures ∙ c.in-Refused.is)) refl
+pub returns-in_err-found : goal.returns-in_err-found
+returns-in_err-found c =
+    let p = err_from_is_err_and c.from_residual.result c.from_residual.ensures.1 in
+    rw (p.1, p.2) (rw (estimate_refused c.args.lot c.args.sheet.now _ (sym c.in_err-found.ensures)) refl)
 
-pub returns-else-sheet-gt1 : goal.returns-else-sheet-gt1
-returns-else-sheet-gt1 c =
-    let k = with_lot c.args.lot c.args.sheet.now c.in-At.f (sym c.locate_lot.ensures ∙ c.in-At.is) in
-    let decided = sym (ap undecided c.answer_to.ensures) ∙ sym c.is_undecided.ensures ∙ c.if-is_undecided.false in
-    let counted : c.evidence-c.result ≡ evidence_counts (field c.args.sheet.now (newest c.args.sheet.now c.in-At.f.at) 0) c.in-At.f.counts = rw (sym c.field_of-newest.ensures, sym c.field_of.ensures) c.evidence-c.ensures in
+pub returns : goal.returns
+returns c =
+    let k = with_lot c.args.lot c.args.sheet.now c.in_ok-found.found (sym c.in_ok-found.ensures) in
+    let decided = sym (ap undecided c.answer_to.ensures) ∙ sym c.goes_on.ensures ∙ c.if-goes_on.false in
+    let counted : c.evidence-c.result ≡ evidence_counts (field c.args.sheet.now (newest c.args.sheet.now c.in_ok-found.found.at) 0) c.in_ok-found.found.counts = rw (sym c.field_of-newest.ensures, sym c.field_of.ensures) c.evidence-c.ensures in
     rw (estimate_granted _ _ _ k decided c.if-sheet-gt1.false c.evidence-c.result counted)
-    (rw c.units.ensures refl)
+    (rw (c.from.ensures, c.from-2.ensures, c.from-3.ensures, c.from-4.ensures, c.units.ensures) refl)
 
 pub bounds-sheet-3 : goal.bounds-sheet-3
 bounds-sheet-3 c =
-    let k = with_lot c.args.lot c.args.sheet.now c.in-At.f (sym c.locate_lot.ensures ∙ c.in-At.is) in
+    let k = with_lot c.args.lot c.args.sheet.now c.in_ok-found.found (sym c.in_ok-found.ensures) in
     omega (arith, long _ _ _ k)

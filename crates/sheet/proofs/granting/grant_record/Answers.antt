@@ -1,6 +1,7 @@
 -- `sheet::grant_record` meets its contract: rows 11 and 19. Assumes nothing.
 use mathlib.Core.Path.{refl, sym, ◌∙◌}
 use mathlib.Core.Logic.{inl, inr}
+use Rattle.plan.specs.declared.refusal.Refusal.TheVariants as refusal
 use Rattle.sheetmodel.specs.Rows.{record_rows}
 use Rattle.sheetmodel.specs.Calls.{full, held_back}
 use Rattle.sheet.proofs.GrantFacts.{denying, giving}
@@ -13,13 +14,13 @@ is_full-requires c = (sized_its c.args.sheet.now c.requires.0).long
 pub returns-then-is_full : goal.returns-then-is_full
 returns-then-is_full c =
     let a = c.args in
-    sym (denying (record_rows (full a.sheet.now) (held_back a.lot a.sheet.now)) 11 (inl (sym c.is_full.ensures ∙ c.if-is_full.true, refl)))
+    sym (denying (record_rows (full a.sheet.now) (held_back a.lot a.sheet.now)) refusal.Full (inl (sym c.is_full.ensures ∙ c.if-is_full.true, refl)))
 
 pub returns-then-not-may_take : goal.returns-then-not-may_take
 returns-then-not-may_take c =
     let not_full = sym c.is_full.ensures ∙ c.if-is_full.false in
     let a = c.args in
-    sym (denying (record_rows (full a.sheet.now) (held_back a.lot a.sheet.now)) 19 (inr (not_full, inl (rw (← c.may_take.ensures) (rw c.if-not-may_take.true refl), refl))))
+    sym (denying (record_rows (full a.sheet.now) (held_back a.lot a.sheet.now)) refusal.HeldBack (inr (not_full, inl (rw (← c.may_take.ensures) (rw c.if-not-may_take.true refl), refl))))
 
 pub returns : goal.returns
 returns c =

@@ -17,7 +17,7 @@ use Rattle.sheet.proofs.survey.lots.Goals as goal
 
 pub loop-left-init : goal.loop-left-init
 loop-left-init c =
-    rw (c.record_count-left.ensures, c.requires.3) (omega arith, omega arith, rw c.no_units.ensures, count_start _)
+    rw (c.record_count-left.ensures, c.requires.3) (omega arith, omega arith, rw c.none.ensures, count_start _)
 
 pub returns-then-at-eq0 : goal.returns-then-at-eq0
 returns-then-at-eq0 c =
