@@ -1,13 +1,11 @@
 -- The states of one row, in place: words filled with a value, states where inspection goes on, and the row as a whole.
 -- Assumes nothing.
-use Prim.Native.Nat.{ℕ, ◌+◌, ◌-◌, ◌*◌, ◌≤◌, ◌<◌, min}
+use Prim.Native.Nat.{ℕ, ◌+◌, ◌-◌, ◌*◌, ◌%◌, ◌≤◌, ◌<◌, min, max}
 use mathlib.Core.Path.{◌≡◌, refl, sym, ap, subst, ◌∙◌}
-use mathlib.Core.Logic.{◌⊎◌, inl, inr, ⊎_elim}
+use mathlib.Core.Logic.{◌⊎◌, inl, inr, ⊎_elim, ◌≢◌}
 use mathlib.Core.Bool.{Bool, true, false, cond}
 use mathlib.Core.List.{List}
-use lib.ListN.{length, get_or, set, replicate, length-set, length-replicate}
-use Rattle.std.proofs.lemmas.List.{get_or-replicate}
-use borrow.Rule.Slice.PartMut.{put_mid}
+use lib.ListN.{length, get_or, set, length-set}
 use lib.Seq.{get_or-set_same, get_or-set_other}
 use lib.Dec.{ltb}
 use borrow.Author.Tests.{ltb-true, ltb-false}
@@ -20,7 +18,6 @@ use Rattle.chance.specs.declared.row.Undecided.{Undecided}
 use Rattle.chance.specs.Chance.{scale}
 use Rattle.chance.specs.Layer.{word, state_value, Values, Valued, Between, Filled, further, Further, FurtherTo, Decided, SteppedRow}
 use Rattle.chance.specs.Constant.{constant_value, Legible}
-use Rattle.chance.proofs.Parts.{before_part, in_part, after_part}
 use Rattle.chance.proofs.States.{constant_is, inside, next_row, word_is, word_at_most, word_same, further_is, further_same}
 
 -- a word that was set, and the others
@@ -30,24 +27,29 @@ module _ (layer : List ℕ) (k v : ℕ) (fits : k < length layer) where
 
 -- ---- words from `from` on, filled up to `to`
 
-module _ {from to value : ℕ} {before : List ℕ} where
-  -- a part that is put back, of which every word is the value
-  pub fill_part : to ≤ length before → from < to → {part : List ℕ} → part ≡ replicate (to - from) value
-      → Filled from to value before (put_mid from (to - from) before part)
-  fill_part fits some {part} e =
-      let size : length part ≡ to - from = ap length e ∙ length-replicate (to - from) value in
+module _ {from value : ℕ} {before : List ℕ} where
+  pub fill_none : Filled from from value before before
+  fill_none = record { done = λ k h m. absurd (omega arith); others = λ k h. refl }
+
+  pub fill_more : {layer : List ℕ} {i : ℕ} → Filled from i value before layer → from ≤ i → i < length layer → Filled from (i + 1) value before (set layer i value)
+  fill_more {layer} {i} p l fits =
       record {
-        done = λ k h m. in_part from to before part (omega arith) fits size k h m ∙ ap (λ (ys : List ℕ). get_or ys (k - from) 0) e
-            ∙ get_or-replicate (to - from) (k - from) value 0 (omega arith);
-        others = λ k h. ⊎_elim {C = get_or (put_mid from (to - from) before part) k 0 ≡ get_or before k 0}
-            (before_part from to before part (omega arith) fits size k) (after_part from to before part (omega arith) fits size k) h;
+        done = λ k h m. ⊎_elim {C = get_or (set layer i value) k 0 ≡ value} (set_at layer i value fits k)
+            (λ q. get_or-set_other layer i k value 0 (omega arith) ∙ p.done k h q) (eq-or-lt_of_le {n = k} {m = i} (omega arith));
+        others = λ k h. get_or-set_other layer i k value 0 (⊎_elim (λ a. omega arith) (λ a. omega arith) h)
+            ∙ p.others k (⊎_elim {C = (k < from) ⊎ (i ≤ k)} inl (λ a. inr (omega arith)) h);
       }
 
-  pub fill_nothing : to ≤ from → Filled from to value before before
-  fill_nothing l = record { done = λ k h m. absurd (omega arith); others = λ k h. refl }
+  -- the words up to i, which is `to` where there are such
+  pub fill_all : {to : ℕ} {layer : List ℕ} {i : ℕ} → Filled from i value before layer → i ≡ max from to → Filled from to value before layer
+  fill_all {to} {layer} {i} p e =
+      record {
+        done = λ k h m. p.done k h (omega arith);
+        others = λ k h. p.others k (elim (dec_lt k from) [ yes q ↦ inl q | no q ↦ inr (⊎_elim {C = i ≤ k} (λ a. absurd (omega arith)) (λ a. omega arith) h) ]);
+      }
 
-  pub filled_values : {layer : List ℕ} (n m : ℕ) → Filled from to value before layer → value ≤ m → Values n m before → Values n m layer
-  filled_values {layer} n m p l h i k = go (dec_lt i from) (dec_lt i to)
+  pub filled_values : {to : ℕ} {layer : List ℕ} (n m : ℕ) → Filled from to value before layer → value ≤ m → Values n m before → Values n m layer
+  filled_values {to} {layer} n m p l h i k = go (dec_lt i from) (dec_lt i to)
     where
       go : Dec (i < from) → Dec (i < to) → get_or layer i 0 ≤ m
       go (yes a) b = rw (p.others i (inl a)) (h i k)
@@ -78,10 +80,9 @@ module _ {s : Setting} {y g from to : ℕ} {before : List ℕ} where
             (elim (dec_lt i (g * s.r2 + b)) [ yes q ↦ inl q | no q ↦ inr (⊎_elim {C = g * s.r2 + to ≤ i} (λ a. omega (arith, p.at_least)) (λ a. a) h) ]);
       }
 
--- the last states alone
-pub further_from : {s : Setting} {y g from first to bad b : ℕ} {before layer : List ℕ} → FurtherTo s y g first to before layer bad b → from ≤ first
-    → FurtherTo s y g from to before layer bad b
-further_from p l = record { same = p.same; at_least = omega (arith, p.at_least); at_most = p.at_most; done = p.done; others = p.others; bad_is = p.bad_is }
+-- where there is no state, nothing is done
+pub further_nothing : {s : Setting} {y g from to : ℕ} {layer : List ℕ} → to ≤ from → Further s y g from to layer layer
+further_nothing h = record { done = λ k l m. absurd (omega arith); others = λ i l. refl }
 
 -- one state more, of k bad units
 pub further_more : {s : Setting} {y g from to bad b : ℕ} {before layer : List ℕ} → FurtherTo s y g from to before layer bad b → (k value marginal : ℕ) → b ≡ k + 1 → from ≤ k
@@ -177,6 +178,25 @@ module _ (t : Constant) {y g from to bad b : ℕ} {before layer : List ℕ} (val
       let value = constant_is t.setting y g k _ _ bad t.same ∙ further_is t.setting before y g k read.good word_on read.bad in
       subst (λ (x : List ℕ). FurtherTo t.setting y g from to before x marginal k) (sym q)
       (further_more p k (constant_value t.setting (get_or layer (g * t.setting.r2 + k) 0) (get_or layer (g * t.setting.r2 + t.setting.r2 + k) 0) bad) marginal one l read.place value (e ∙ word_on))
+
+-- the states that four do not go into, which come first, and those that are left then
+pub odd_some : (from b : ℕ) → from ≤ b → (b - from) % 4 ≢ 0 → from < b
+odd_some from b h e = omega arith
+
+pub odd_less : (from to b : ℕ) → from ≤ b → b ≤ to → to - (to - from) % 4 ≤ b → (b - from) % 4 ≢ 0 → to - (to - from) % 4 ≤ b - 1
+odd_less from to b h k l e = omega arith
+
+pub odd_none : (from to b : ℕ) → from ≤ b → b ≤ to → to - (to - from) % 4 ≤ b → (b - from) % 4 ≡ 0 → b ≡ to - (to - from) % 4
+odd_none from to b h k l e = omega arith
+
+pub fours : (from to : ℕ) → from ≤ to → (to - (to - from) % 4 - from) % 4 ≡ 0
+fours from to h = omega arith
+
+pub four_left : (from b : ℕ) → from < b → (b - from) % 4 ≡ 0 → from + 4 ≤ b
+four_left from b h e = omega arith
+
+pub four_less : (from b : ℕ) → from + 4 ≤ b → (b - from) % 4 ≡ 0 → (b - 4 - from) % 4 ≡ 0
+four_less from b h e = omega arith
 
 -- ---- the row: rejected and accepted states filled, those between the limits stepped
 

@@ -7,30 +7,8 @@ use lib.ListN.{length, get_or, take, drop, length-drop, get_or-append, get_or-eq
 use lib.Seq.{get_or-append-add, get_or-take, get_or-drop, length-take-le, ext_get_or}
 use native.Mathlib.Decide.{dec_lt}
 use native.Mathlib.Omega.{arith}
-use borrow.Rule.Slice.PartMut.{mid_of, post_of, put_mid, same_len_mid, mid_len, take_put, drop_put}
+use borrow.Rule.Slice.PartMut.{mid_of, post_of, put_mid, same_len_mid, mid_len}
 use Rattle.chance.specs.Layer.{Beyond}
-
--- the words before a part, in it and after it, with ys in its place
-module _ (from to : ℕ) (xs ys : List ℕ) (some : from ≤ to) (fits : to ≤ length xs) (size : length ys ≡ to - from) where
-  abbrev put : List ℕ
-  put = put_mid from (to - from) xs ys
-
-  pub before_part : (i : ℕ) → i < from → get_or put i 0 ≡ get_or xs i 0
-  before_part i l =
-      sym (get_or-take from put i 0 l) ∙ ap (λ (zs : List ℕ). get_or zs i 0) (take_put from (to - from) xs ys (omega arith)) ∙ get_or-take from xs i 0 l
-
-  pub in_part : (i : ℕ) → from ≤ i → i < to → get_or put i 0 ≡ get_or ys (i - from) 0
-  in_part i h l =
-      let place : i ≡ length (take from xs) + (i - from) = omega (arith, length-take-le from xs (omega arith)) in
-      ap (λ (k : ℕ). get_or put k 0) place ∙ get_or-append-add (take from xs) (ys ++ post_of from (to - from) xs) (i - from) 0
-      ∙ get_or-append ys (post_of from (to - from) xs) 0 (i - from) (omega arith)
-
-  pub after_part : (i : ℕ) → to ≤ i → get_or put i 0 ≡ get_or xs i 0
-  after_part i h =
-      let place : to + (i - to) ≡ i = omega arith in
-      ap (λ (k : ℕ). get_or put k 0) (sym place) ∙ sym (get_or-drop to put (i - to) 0)
-      ∙ ap (λ (zs : List ℕ). get_or zs (i - to) 0) (drop_put from to xs ys some fits size)
-      ∙ get_or-drop to xs (i - to) 0 ∙ ap (λ (k : ℕ). get_or xs k 0) place
 
 -- the part from h on, of which the words from n on are as they were
 pub from_middle : (h n : ℕ) (xs ys : List ℕ) → h ≤ length xs → length ys ≡ length (mid_of h (length xs - h) xs)

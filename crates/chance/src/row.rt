@@ -1,6 +1,6 @@
 // A row of a layer, the states of g nongood units, in place: from the values at y + 1 units to those at y. The
 // state of g nongood and b bad units stands at g * r2 + b, for g below r1 and b below r2.
-ghost use Rattle.std.specs.Prelude.{◌≡◌, ◌+◌, ◌-◌, ◌*◌, ◌≤◌, ◌<◌, min, length, get_or, set};
+ghost use Rattle.std.specs.Prelude.{◌≡◌, ◌+◌, ◌-◌, ◌*◌, ◌%◌, ◌≤◌, ◌<◌, min, length, get_or, set};
 ghost use Rattle.chance.specs.Layer.{word, Valued, Between, Weighs, Filled, Further, FurtherTo, Decided, SteppedRow};
 ghost use Rattle.chance.specs.Constant.{constant_value, Legible};
 
@@ -8,23 +8,32 @@ use crate::constant::Constant;
 use crate::means::Means;
 use crate::setting::Setting;
 
-// The words from `from` on and below `to`, if there are such, become `value`.
+// The words from `from` on and below `to` become `value`. The slices' own `fill` made a row's step slower.
 pub fn fill(layer: &mut [u64], from: usize, to: usize, value: u64)
     requires { to ≤ length layer.old }
     ensures { Filled from to value layer.old layer.new }
 {
-    if from < to {
-        layer[from..to].fill(value);
+    for i in from..to {
+        layer[i] = value;
     }
 }
 
-// The value of g nongood and b bad units, which is 0 where g reaches r1 or b reaches r2.
+// The value of g nongood and b bad units, which is 0 where g reaches r1.
 fn value_at(layer: &[u64], s: Setting, g: usize, b: usize) -> u64
+    requires room { s.r1 * s.r2 ≤ length layer.now }
+    requires b_lt_r2 { b < s.r2 }
+    ensures { result ≡ word s.r1 s.r2 layer.now g b }
+{
+    if g < s.r1 { layer[g * s.r2 + b] } else { 0 }
+}
+
+// The same, for b that may reach r2.
+fn edge_value(layer: &[u64], s: Setting, g: usize, b: usize) -> u64
     requires { s.r1 * s.r2 ≤ length layer.now }
     ensures { result ≡ word s.r1 s.r2 layer.now g b }
 {
-    if g < s.r1 && b < s.r2 {
-        layer[g * s.r2 + b]
+    if b < s.r2 {
+        value_at(layer, s, g, b)
     } else {
         0
     }
@@ -48,7 +57,7 @@ fn step_states<M: Means>(
 {
     let s = means.setting();
     let start = g * s.r2;
-    let mut bad = value_at(layer, s, g + 1, to);
+    let mut bad = edge_value(layer, s, g + 1, to);
     for b in (from..to).rev() {
         let marginal = value_at(layer, s, g + 1, b);
         layer[start + b] = means.value(y, g, b, layer[start + b], marginal, bad);
@@ -68,20 +77,42 @@ fn state(layer: &mut [u64], t: Constant, row: usize, next: usize, b: usize, bad:
     marginal
 }
 
-// The same states with constant weights, in a row before the last, in a form that is faster: four a turn was the
-// fastest of those that were timed (docs/DECISIONS.md).
+// The last states of those that `step_fours` steps, until four go into the number of the others. `step_states` would do
+// the same, but as a loop that counts its turns it became vector code, which was slower for so few.
+fn odd_states(layer: &mut [u64], t: Constant, y: usize, g: usize, from: usize, to: usize) -> u64
+    requires valued { Valued layer.old t.setting }
+    requires between { Between t.setting y g to }
+    requires g_bound { (g + 1 < t.setting.r1) × (from ≤ to) }
+    ensures { FurtherTo t.setting y g from to layer.old layer.new result (to - (to - from) % 4) }
+{
+    let row = g * t.setting.r2;
+    let next = row + t.setting.r2;
+    let mut bad = edge_value(layer, t.setting, g + 1, to);
+    let mut b = to;
+    while (b - from) % 4 != 0 {
+        b -= 1;
+        bad = state(layer, t, row, next, b, bad);
+    }
+    bad
+}
+
+// The same states with constant weights, in a row before the last, in a form that is faster. Four a turn was the
+// fastest of those that were timed (docs/DECISIONS.md); with a `for` over the turns it was slower.
 fn step_fours(layer: &mut [u64], t: Constant, y: usize, g: usize, from: usize, to: usize)
     requires valued { Valued layer.old t.setting }
     requires between { Between t.setting y g to }
     requires g_bound { g + 1 < t.setting.r1 }
     ensures { Further t.setting y g from to layer.old layer.new }
 {
+    if to <= from {
+        return;
+    }
     let row = g * t.setting.r2;
     let next = row + t.setting.r2;
-    let turns = to.saturating_sub(from) / 4;
-    let mut bad = step_states(layer, t, y, g, from + 4 * turns, to);
-    for turn in (0..turns).rev() {
-        let b = from + 4 * turn;
+    let mut bad = odd_states(layer, t, y, g, from, to);
+    let mut b = to - (to - from) % 4;
+    while from < b {
+        b -= 4;
         let third = state(layer, t, row, next, b + 3, bad);
         let second = state(layer, t, row, next, b + 2, third);
         let first = state(layer, t, row, next, b + 1, second);
