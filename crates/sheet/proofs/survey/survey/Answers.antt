@@ -1,17 +1,11 @@
 -- `sheet::survey` meets its contract: the header, the lots, the free records, and their number. Assumes nothing.
+use Rattle.std.proofs.Common.{◌≡◌, ℕ, List, true, ◌≤◌, length, refl, sym, ap, ◌∙◌}
 use Rattle.plan.proofs.Bools.{and_left, and_right}
-use Prim.Native.Nat.{ℕ, ◌≤◌}
-use mathlib.Core.Path.{◌≡◌, refl, sym, ap, ◌∙◌}
-use mathlib.Core.Bool.{true}
-use mathlib.Core.List.{List}
-use lib.ListN.{length}
 use borrow.Author.Tests.{leb-true}
 use Rattle.plan.specs.Plan.{stages, admitted}
 use Rattle.plan.proofs.Promise.{shape}
-use Rattle.sheet.specs.declared.chain.FreeChain.{FreeChain}
-use Rattle.sheet.specs.declared.chain.FreeChain.TheVariants as free
-use Rattle.sheet.specs.declared.survey.Surveyed.{Surveyed}
-use Rattle.sheet.specs.declared.survey.Surveyed.TheVariants.{Corrupt, Intact}
+use Rattle.std.specs.Prelude.{Option, Some, None}
+use Rattle.sheet.specs.declared.survey.Found.{Found}
 use Rattle.sheetmodel.specs.Layout.{least_size, greatest_size, word, records, next_unused, first_lot, first_free, plan_words}
 use Rattle.sheetmodel.specs.Read.{depth, read_lots, read_free, read_from, header_ok}
 use Rattle.sheet.specs.Survey.{Sized, nothing_found, lots_survey, free_of, survey_of}
@@ -32,8 +26,8 @@ sized first w long short e = record { long = long; short = short; room = (header
 
 -- what the survey gives, by the lots v of the plan p and the free records k
 by_both : (first : ℕ) (w : List ℕ) (sought : ℕ) → header_ok first w ≡ true → (p : List ℕ) → p ≡ plan_words w
-    → (v : Surveyed) → v ≡ lots_survey (stages p) sought nothing_found (read_lots first w (records w) 0 (word w first_lot))
-    → (k : FreeChain) → k ≡ free_of (read_free first w (depth w) (word w first_free))
+    → (v : Option Found) → v ≡ lots_survey (stages p) sought nothing_found (read_lots first w (records w) 0 (word w first_lot))
+    → (k : Option ℕ) → k ≡ free_of (read_free first w (depth w) (word w first_free))
     → by_walks first w v k ≡ survey_of sought (read_from first w)
 by_both first w sought ok p e v l k f =
     by_code first w sought ok v (l ∙ ap (λ (q : List ℕ). lots_survey (stages q) sought nothing_found (read_lots first w (records w) 0 (word w first_lot))) e) k f
@@ -56,44 +50,32 @@ sample_size-most-requires c =
     let h = header c.args.first c.args.sheet.now (sym c.header_ok.ensures ∙ c.if-not-header_ok.false) in
     rw c.plan_of-plan.ensures (shape (plan_words c.args.sheet.now) h.plan).thousand_units
 
-pub lots-requires : goal.lots-requires
-lots-requires c =
-    let w = c.args.sheet.now in
-    let ok = sym c.header_ok.ensures ∙ c.if-not-header_ok.false in
-    (sized c.args.first w c.requires.0 c.requires.1 ok, rw c.plan_of-plan.ensures (header c.args.first w ok).plan, c.sample_size-most.ensures, c.requires.2)
+pub returns-in_err-found-clause-value : goal.returns-in_err-found-clause-value
+returns-in_err-found-clause-value c =
+    rw c.from_residual.ensures
+    (by_both c.args.first c.args.sheet.now c.args.sought (sym c.header_ok.ensures ∙ c.if-not-header_ok.false) _ c.plan_of-plan.ensures None c.in_err-found.ensures.value _ refl)
 
-pub free_chain-requires : goal.free_chain-requires
-free_chain-requires c = sized c.args.first c.args.sheet.now c.requires.0 c.requires.1 (sym c.header_ok.ensures ∙ c.if-not-header_ok.false)
+pub returns-in_err-free-clause-value : goal.returns-in_err-free-clause-value
+returns-in_err-free-clause-value c =
+    rw c.from_residual-in_err-free.ensures
+    (by_both c.args.first c.args.sheet.now c.args.sought (sym c.header_ok.ensures ∙ c.if-not-header_ok.false) _ c.plan_of-plan.ensures
+    (Some c.in_ok-found.found) c.in_ok-found.ensures.value None c.in_err-free.ensures)
 
-pub returns-in-Corrupt : goal.returns-in-Corrupt
-returns-in-Corrupt c = record {
-  value = by_both c.args.first c.args.sheet.now c.args.sought (sym c.header_ok.ensures ∙ c.if-not-header_ok.false) _ c.plan_of-plan.ensures Corrupt (sym c.in-Corrupt.is ∙ c.lots.ensures.value) _ refl;
-  counted = tt;
-}
-
-pub returns-in-Corrupt-free_chain : goal.returns-in-Corrupt-free_chain
-returns-in-Corrupt-free_chain c = record {
-  value = by_both c.args.first c.args.sheet.now c.args.sought (sym c.header_ok.ensures ∙ c.if-not-header_ok.false) _ c.plan_of-plan.ensures
-      (Intact c.in-Intact.f) (sym c.in-Intact.is ∙ c.lots.ensures.value) free.Corrupt (sym c.in-Corrupt-free_chain.is ∙ c.free_chain.ensures);
-  counted = tt;
-}
-
-pub returns-then-not-count_ok : goal.returns-then-not-count_ok
-returns-then-not-count_ok c =
+pub returns-then-count_ok-clause-value : goal.returns-then-count_ok-clause-value
+returns-then-count_ok-clause-value c =
     let both = by_both c.args.first c.args.sheet.now c.args.sought (sym c.header_ok.ensures ∙ c.if-not-header_ok.false) _ c.plan_of-plan.ensures
-    (Intact c.in-Intact.f) (sym c.in-Intact.is ∙ c.lots.ensures.value) (free.Whole c.in-Whole.free) (sym c.in-Whole.is ∙ c.free_chain.ensures) in
-    record {
-      value = rw (sym c.count_ok.ensures ∙ c.if-not-count_ok.true) at both;
-      counted = tt;
-    }
+    (Some c.in_ok-found.found) c.in_ok-found.ensures.value (Some c.in_ok-free.free) c.in_ok-free.ensures in
+    rw (sym c.count_ok.ensures ∙ c.if-count_ok.true) at both
 
-pub returns-else-not-count_ok : goal.returns-else-not-count_ok
-returns-else-not-count_ok c =
-    let a = c.args in
-    let both = by_both a.first a.sheet.now a.sought (sym c.header_ok.ensures ∙ c.if-not-header_ok.false) _ c.plan_of-plan.ensures
-    (Intact c.in-Intact.f) (sym c.in-Intact.is ∙ c.lots.ensures.value) (free.Whole c.in-Whole.free) (sym c.in-Whole.is ∙ c.free_chain.ensures) in
-    let is = rw (sym c.count_ok.ensures ∙ c.if-not-count_ok.false) at both in
-    record {
-      value = is;
-      counted = counted_whole a.first a.sheet.now a.sought c.in-Intact.f _ (sym is) (rw c.in-Intact.is at c.lots.ensures.counted);
-    }
+pub returns-then-count_ok-clause-counted : goal.returns-then-count_ok-clause-counted
+returns-then-count_ok-clause-counted c =
+    let both = by_both c.args.first c.args.sheet.now c.args.sought (sym c.header_ok.ensures ∙ c.if-not-header_ok.false) _ c.plan_of-plan.ensures
+    (Some c.in_ok-found.found) c.in_ok-found.ensures.value (Some c.in_ok-free.free) c.in_ok-free.ensures in
+    let is = rw (sym c.count_ok.ensures ∙ c.if-count_ok.true) at both in
+    counted_whole c.args.first c.args.sheet.now c.args.sought c.in_ok-found.found _ (sym is) c.in_ok-found.ensures.counted
+
+pub returns-else-count_ok-clause-value : goal.returns-else-count_ok-clause-value
+returns-else-count_ok-clause-value c =
+    let both = by_both c.args.first c.args.sheet.now c.args.sought (sym c.header_ok.ensures ∙ c.if-not-header_ok.false) _ c.plan_of-plan.ensures
+    (Some c.in_ok-found.found) c.in_ok-found.ensures.value (Some c.in_ok-free.free) c.in_ok-free.ensures in
+    rw (sym c.count_ok.ensures ∙ c.if-count_ok.false) at both
