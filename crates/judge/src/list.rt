@@ -32,18 +32,14 @@ impl fmt::Display for Judgement {
     }
 }
 
-// Is every class of the list one that a unit may have? The greatest decides, because a loop that does
-// not return is compiled to vector code.
+// Is every class of the list one that a unit may have? The greatest decides, because a loop that does not return is
+// compiled to vector code.
 fn are_classes(list: &[u8]) -> bool
     ensures { result ≡ are_classes list.now }
 {
     let mut greatest: u8 = 0;
-    let mut i: usize = 0;
-    while i < list.len() {
-        if greatest < list[i] {
-            greatest = list[i];
-        }
-        i += 1;
+    for class in list {
+        greatest = greatest.max(*class);
     }
     greatest <= plan::HIGHEST_CLASS as u8
 }
