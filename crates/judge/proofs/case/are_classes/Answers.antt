@@ -6,7 +6,7 @@ use lib.Dec.{leb}
 use Rattle.plan.specs.Sample.{highest_class}
 use Rattle.plan.proofs.Sample.{classing}
 use Rattle.judge.proofs.Along.{class_greatest}
-use Rattle.judge.proofs.list.are_classes.Goals as goal
+use Rattle.judge.proofs.case.are_classes.Goals as goal
 
 pub loop-class-preserved : goal.loop-class-preserved
 loop-class-preserved c =
