@@ -15,7 +15,7 @@ use Rattle.judge.specs.declared.stop.Stop.{Stop}
 use Rattle.judge.specs.Judge.{stop_of}
 use Rattle.judge.proofs.Runs.{run, run_length}
 use Rattle.judge.proofs.FromFull.{in_plan, uncurtailed_none, uncurtailed_short, uncurtailed_end, end_after}
-use Rattle.judge.proofs.stop.uncurtailed_stop.Goals as goal
+use Rattle.judge.proofs.case.Case.uncurtailed_stop.Goals as goal
 
 few : (w : List ℕ) (ok : admitted w ≡ true) (xs : List ℕ) (full : Stop) → full ≡ stop_of (Staged Full) w xs → units full.counts ≤ 1000
 few w ok xs full is = omega (arith, in_plan w ok xs full is, (shape w ok).thousand_units)
@@ -43,58 +43,58 @@ to_end w ok xs full is off from end f e =
 pub returns-then-goes_on : goal.returns-then-goes_on
 returns-then-goes_on c =
     c.no_stop.ensures ∙
-    uncurtailed_none c.args.plan.now c.requires.0 c.args.list.now c.args.full c.requires.1 (sym c.goes_on.ensures ∙ c.if-goes_on.true)
+    uncurtailed_none c.args.self.now.plan.now c.args.self.now.admitted c.args.self.now.list.now c.args.full c.requires (sym c.goes_on.ensures ∙ c.if-goes_on.true)
 
 pub units-from-requires : goal.units-from-requires
-units-from-requires c = few c.args.plan.now c.requires.0 c.args.list.now c.args.full c.requires.1
+units-from-requires c = few c.args.self.now.plan.now c.args.self.now.admitted c.args.self.now.list.now c.args.full c.requires
 
 pub end_from-end-requires : goal.end_from-end-requires
-end_from-end-requires c = omega (arith, (shape c.args.plan.now c.requires.0).thousand_units)
+end_from-end-requires c = omega (arith, (shape c.args.self.now.plan.now c.args.self.now.admitted).thousand_units)
 
-pub returns-then-list-end : goal.returns-then-list-end
-returns-then-list-end c =
-    let xs = c.args.list.now in
-    let t = to_end c.args.plan.now c.requires.0 xs c.args.full c.requires.1 (sym c.goes_on.ensures ∙ c.if-goes_on.false) c.units-from.result c.end_from-end.result
+pub returns-then-self-end : goal.returns-then-self-end
+returns-then-self-end c =
+    let xs = c.args.self.now.list.now in
+    let t = to_end c.args.self.now.plan.now c.args.self.now.admitted xs c.args.full c.requires (sym c.goes_on.ensures ∙ c.if-goes_on.false) c.units-from.result c.end_from-end.result
     c.units-from.ensures c.end_from-end.ensures in
-    c.no_stop-then-list-end.ensures ∙ uncurtailed_short c.args.plan.now c.requires.0 xs c.args.full c.requires.1 t.off c.end_from-end.result t.is_end c.if-list-end.true
+    c.no_stop-then-self-end.ensures ∙ uncurtailed_short c.args.self.now.plan.now c.args.self.now.admitted xs c.args.full c.requires t.off c.end_from-end.result t.is_end c.if-self-end.true
 
 pub slice_bounds-count_run-count : goal.slice_bounds-count_run-count
 slice_bounds-count_run-count c =
-    let xs = c.args.list.now in
-    let t = to_end c.args.plan.now c.requires.0 xs c.args.full c.requires.1 (sym c.goes_on.ensures ∙ c.if-goes_on.false) c.units-from.result c.end_from-end.result
+    let xs = c.args.self.now.list.now in
+    let t = to_end c.args.self.now.plan.now c.args.self.now.admitted xs c.args.full c.requires (sym c.goes_on.ensures ∙ c.if-goes_on.false) c.units-from.result c.end_from-end.result
     c.units-from.ensures c.end_from-end.ensures in
     t.after
 
 pub slice_bounds-count_run-start : goal.slice_bounds-count_run-start
 slice_bounds-count_run-start c =
-    let xs = c.args.list.now in
-    let t = to_end c.args.plan.now c.requires.0 xs c.args.full c.requires.1 (sym c.goes_on.ensures ∙ c.if-goes_on.false) c.units-from.result c.end_from-end.result
+    let xs = c.args.self.now.list.now in
+    let t = to_end c.args.self.now.plan.now c.args.self.now.admitted xs c.args.full c.requires (sym c.goes_on.ensures ∙ c.if-goes_on.false) c.units-from.result c.end_from-end.result
     c.units-from.ensures c.end_from-end.ensures in
     omega (arith, t.after)
 
 pub count_run-c-requires : goal.count_run-c-requires
 count_run-c-requires c =
-    let xs = c.args.list.now in
-    let t = to_end c.args.plan.now c.requires.0 xs c.args.full c.requires.1 (sym c.goes_on.ensures ∙ c.if-goes_on.false) c.units-from.result c.end_from-end.result
+    let xs = c.args.self.now.list.now in
+    let t = to_end c.args.self.now.plan.now c.args.self.now.admitted xs c.args.full c.requires (sym c.goes_on.ensures ∙ c.if-goes_on.false) c.units-from.result c.end_from-end.result
     c.units-from.ensures c.end_from-end.ensures in
-    omega (arith, run_length xs c.units-from.result c.end_from-end.result t.after c.if-list-end.false, t.few, t.after)
+    omega (arith, run_length xs c.units-from.result c.end_from-end.result t.after c.if-self-end.false, t.few, t.after)
 
 pub answer-requires : goal.answer-requires
 answer-requires c =
-    let xs = c.args.list.now in
-    let t = to_end c.args.plan.now c.requires.0 xs c.args.full c.requires.1 (sym c.goes_on.ensures ∙ c.if-goes_on.false) c.units-from.result c.end_from-end.result
+    let xs = c.args.self.now.list.now in
+    let t = to_end c.args.self.now.plan.now c.args.self.now.admitted xs c.args.full c.requires (sym c.goes_on.ensures ∙ c.if-goes_on.false) c.units-from.result c.end_from-end.result
     c.units-from.ensures c.end_from-end.ensures in
     let rest = run xs c.units-from.result c.end_from-end.result in
     let n : units c.count_run-c.result ≡ units c.args.full.counts + length rest = ap units c.count_run-c.ensures ∙ (counting.after_more c.args.full.counts rest).units in
-    let rest_length = run_length xs c.units-from.result c.end_from-end.result t.after c.if-list-end.false in
-    ((shape c.args.plan.now c.requires.0).thousand_units, omega (arith, n, rest_length, t.few, t.after, c.units-from.ensures))
+    let rest_length = run_length xs c.units-from.result c.end_from-end.result t.after c.if-self-end.false in
+    ((shape c.args.self.now.plan.now c.args.self.now.admitted).thousand_units, omega (arith, n, rest_length, t.few, t.after, c.units-from.ensures))
 
 pub returns : goal.returns
 returns c =
-    let xs = c.args.list.now in
-    let t = to_end c.args.plan.now c.requires.0 xs c.args.full c.requires.1 (sym c.goes_on.ensures ∙ c.if-goes_on.false) c.units-from.result c.end_from-end.result
+    let xs = c.args.self.now.list.now in
+    let t = to_end c.args.self.now.plan.now c.args.self.now.admitted xs c.args.full c.requires (sym c.goes_on.ensures ∙ c.if-goes_on.false) c.units-from.result c.end_from-end.result
     c.units-from.ensures c.end_from-end.ensures in
     let d = c.count_run-c in
     rw c.answer.ensures
-    (uncurtailed_end c.args.plan.now c.requires.0 xs c.args.full c.requires.1 t.off c.end_from-end.result t.is_end c.if-list-end.false d.result
+    (uncurtailed_end c.args.self.now.plan.now c.args.self.now.admitted xs c.args.full c.requires t.off c.end_from-end.result t.is_end c.if-self-end.false d.result
     (d.ensures ∙ ap (λ (n : ℕ). counts_after c.args.full.counts (run xs n c.end_from-end.result)) c.units-from.ensures))

@@ -7,46 +7,46 @@ use Rattle.plan.proofs.Promise.{shape}
 use Rattle.plan.specs.Stopping.{goes_on}
 use Rattle.judge.proofs.Runs.{run, run_length}
 use Rattle.judge.proofs.Halves.{is_on, Halved, halved, stop_found}
-use Rattle.judge.proofs.stop.before_stop.Goals as goal
+use Rattle.judge.proofs.case.Case.before_stop.Goals as goal
 
 pub loop-high-init : goal.loop-high-init
-loop-high-init c = (c.units-low.ensures, c.requires.1)
+loop-high-init c = (c.units-low.ensures, c.requires)
 
 pub count_run-d-requires : goal.count_run-d-requires
 count_run-d-requires c =
     let l = c.loop-high in
     let t = l.invariant.1 in
-    let xs = c.args.list.now in
+    let xs = c.args.self.now.list.now in
     let h = c.half in
     omega (arith, run_length xs l.low (l.low + h.result) (omega arith) (omega (arith, t.within)), t.thousand)
 
 pub answer-requires : goal.answer-requires
 answer-requires c =
-    let middle : Halved c.args.plan.now c.args.way c.args.list.now c.loop-high.c c.loop-high.high (c.loop-high.low + c.half.result) c.count_run-d.result = let s = c.args in
+    let middle : Halved c.args.self.now.plan.now c.args.way c.args.self.now.list.now c.loop-high.c c.loop-high.high (c.loop-high.low + c.half.result) c.count_run-d.result = let s = c.args in
     let l = c.loop-high in
     let m = l.low + c.half.result in
-    halved s.plan.now s.way s.list.now l.c l.high l.invariant.1 m (omega (arith, l.invariant.0)) (omega (arith, l.invariant.0)) c.count_run-d.result
-    (c.count_run-d.ensures ∙ ap (λ (n : ℕ). counts_after l.c (run s.list.now n m)) l.invariant.0) in
+    halved s.self.now.plan.now s.way s.self.now.list.now l.c l.high l.invariant.1 m (omega (arith, l.invariant.0)) (omega (arith, l.invariant.0)) c.count_run-d.result
+    (c.count_run-d.ensures ∙ ap (λ (n : ℕ). counts_after l.c (run s.self.now.list.now n m)) l.invariant.0) in
     let l = c.loop-high in
-    ((shape c.args.plan.now c.requires.0).thousand_units, omega (arith, middle.units, l.invariant.1.thousand))
+    ((shape c.args.self.now.plan.now c.args.self.now.admitted).thousand_units, omega (arith, middle.units, l.invariant.1.thousand))
 
 pub loop-high-preserved-then-goes_on : goal.loop-high-preserved-then-goes_on
 loop-high-preserved-then-goes_on c =
-    let middle : Halved c.args.plan.now c.args.way c.args.list.now c.loop-high.c c.loop-high.high (c.loop-high.low + c.half.result) c.count_run-d.result = let s = c.args in
+    let middle : Halved c.args.self.now.plan.now c.args.way c.args.self.now.list.now c.loop-high.c c.loop-high.high (c.loop-high.low + c.half.result) c.count_run-d.result = let s = c.args in
     let l = c.loop-high in
     let m = l.low + c.half.result in
-    halved s.plan.now s.way s.list.now l.c l.high l.invariant.1 m (omega (arith, l.invariant.0)) (omega (arith, l.invariant.0)) c.count_run-d.result
-    (c.count_run-d.ensures ∙ ap (λ (n : ℕ). counts_after l.c (run s.list.now n m)) l.invariant.0) in
+    halved s.self.now.plan.now s.way s.self.now.list.now l.c l.high l.invariant.1 m (omega (arith, l.invariant.0)) (omega (arith, l.invariant.0)) c.count_run-d.result
+    (c.count_run-d.ensures ∙ ap (λ (n : ℕ). counts_after l.c (run s.self.now.list.now n m)) l.invariant.0) in
     let h = middle in
     (sym h.units, h.later (sym c.answer.ensures ∙ is_on _ (sym c.goes_on.ensures ∙ c.if-goes_on.true)))
 
 pub loop-high-preserved : goal.loop-high-preserved
 loop-high-preserved c =
-    let middle : Halved c.args.plan.now c.args.way c.args.list.now c.loop-high.c c.loop-high.high (c.loop-high.low + c.half.result) c.count_run-d.result = let s = c.args in
+    let middle : Halved c.args.self.now.plan.now c.args.way c.args.self.now.list.now c.loop-high.c c.loop-high.high (c.loop-high.low + c.half.result) c.count_run-d.result = let s = c.args in
     let l = c.loop-high in
     let m = l.low + c.half.result in
-    halved s.plan.now s.way s.list.now l.c l.high l.invariant.1 m (omega (arith, l.invariant.0)) (omega (arith, l.invariant.0)) c.count_run-d.result
-    (c.count_run-d.ensures ∙ ap (λ (n : ℕ). counts_after l.c (run s.list.now n m)) l.invariant.0) in
+    halved s.self.now.plan.now s.way s.self.now.list.now l.c l.high l.invariant.1 m (omega (arith, l.invariant.0)) (omega (arith, l.invariant.0)) c.count_run-d.result
+    (c.count_run-d.ensures ∙ ap (λ (n : ℕ). counts_after l.c (run s.self.now.list.now n m)) l.invariant.0) in
     let h = middle in
     let l = c.loop-high in
     (l.invariant.0, h.sooner (ap goes_on (sym c.answer.ensures) ∙ sym c.goes_on.ensures ∙ c.if-goes_on.false))
@@ -54,10 +54,10 @@ loop-high-preserved c =
 pub returns : goal.returns
 returns c =
     let l = c.loop-high in
-    stop_found c.args.plan.now c.args.way c.args.list.now c.requires.0 l.c l.high l.invariant.1 (omega (arith, l.invariant.0))
+    stop_found c.args.self.now.plan.now c.args.way c.args.self.now.list.now c.args.self.now.admitted l.c l.high l.invariant.1 (omega (arith, l.invariant.0))
 
 pub units-low-requires : goal.units-low-requires
-units-low-requires c = let t = c.requires.1 in omega (arith, t.apart, t.thousand)
+units-low-requires c = let t = c.requires in omega (arith, t.apart, t.thousand)
 
 pub overflow_sub-high : goal.overflow_sub-high
 overflow_sub-high c = omega (arith, c.loop-high.invariant.1.apart)

@@ -8,11 +8,11 @@ use Rattle.plan.specs.declared.ways.StageWay.TheVariants.{Full}
 use Rattle.plan.specs.declared.ways.Way.TheVariants.{Staged}
 use Rattle.plan.specs.Counts.{counts}
 use Rattle.judge.specs.Laws.{rule_of}
-use Rattle.judge.proofs.stop.before_full_stop.Given as goal
+use Rattle.judge.proofs.case.Case.before_full_stop.Given as goal
 
 abbrev pub invariant-loop-i : goal.invariant-loop-i
 invariant-loop-i l =
-    (l.i ≤ length l.list) × (l.c ≡ counts (take l.i l.list)) × ((z : ℕ) → z ≤ l.i → rule_of (Staged Full) l.plan (take z l.list) ≡ GoOn)
+    (l.i ≤ length l.self.list.now) × (l.c ≡ counts (take l.i l.self.list.now)) × ((z : ℕ) → z ≤ l.i → rule_of (Staged Full) l.self.plan.now (take z l.self.list.now) ≡ GoOn)
 
 abbrev pub decreases-loop-i : goal.decreases-loop-i
-decreases-loop-i l = length l.list - l.i
+decreases-loop-i l = length l.self.list.now - l.i

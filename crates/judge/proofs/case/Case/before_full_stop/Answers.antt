@@ -20,7 +20,7 @@ use Rattle.judge.proofs.Runs.{run_counts, run_length, units_to}
 use Rattle.judge.proofs.Stops.{at_none}
 use Rattle.judge.proofs.Halves.{is_on, run_end, stage_steady, stage_between}
 use Rattle.judge.proofs.FromFull.{units_left, all_read}
-use Rattle.judge.proofs.stop.before_full_stop.Goals as goal
+use Rattle.judge.proofs.case.Case.before_full_stop.Goals as goal
 
 -- ---- a turn of the loop: from i units to j, where their stage or the list ends
 
@@ -47,53 +47,53 @@ pub loop-i-init : goal.loop-i-init
 loop-i-init c = (
   omega arith,
   c.none-c.ensures ∙ sym counting.empty,
-  λ z l. let none : z ≡ 0 = omega arith in rw none (at_none c.args.plan.now c.requires (Staged Full) c.args.list.now),
+  λ z l. let none : z ≡ 0 = omega arith in rw none (at_none c.args.self.now.plan.now c.args.self.now.admitted (Staged Full) c.args.self.now.list.now),
 )
 
 pub overflow_cast-i : goal.overflow_cast-i
 overflow_cast-i c =
     let l = c.loop-i in
-    let left = units_left c.args.plan.now c.requires c.args.list.now l.i l.invariant.0 l.invariant.2 in
-    omega (arith, left, (shape c.args.plan.now c.requires).thousand_units)
+    let left = units_left c.args.self.now.plan.now c.args.self.now.admitted c.args.self.now.list.now l.i l.invariant.0 l.invariant.2 in
+    omega (arith, left, (shape c.args.self.now.plan.now c.args.self.now.admitted).thousand_units)
 
 pub overflow_add-i : goal.overflow_add-i
 overflow_add-i c =
     let l = c.loop-i in
-    let left = units_left c.args.plan.now c.requires c.args.list.now l.i l.invariant.0 l.invariant.2 in
-    omega (arith, left, (shape c.args.plan.now c.requires).thousand_units)
+    let left = units_left c.args.self.now.plan.now c.args.self.now.admitted c.args.self.now.list.now l.i l.invariant.0 l.invariant.2 in
+    omega (arith, left, (shape c.args.self.now.plan.now c.args.self.now.admitted).thousand_units)
 
 pub end_from-requires : goal.end_from-requires
-end_from-requires c = omega (arith, (shape c.args.plan.now c.requires).thousand_units)
+end_from-requires c = omega (arith, (shape c.args.self.now.plan.now c.args.self.now.admitted).thousand_units)
 
 pub slice_bounds-count_run-count : goal.slice_bounds-count_run-count
 slice_bounds-count_run-count c =
     let l = c.loop-i in
-    let xs = c.args.list.now in
-    let t = turn c.args.plan.now c.requires xs l.i l.invariant.0 l.invariant.2 c.min-end.result c.loop-i-test.true
+    let xs = c.args.self.now.list.now in
+    let t = turn c.args.self.now.plan.now c.args.self.now.admitted xs l.i l.invariant.0 l.invariant.2 c.min-end.result c.loop-i-test.true
     (c.min-end.ensures ∙ ap (λ (n : ℕ). min n (length xs)) c.end_from.ensures) in
     omega (arith, t.begins)
 
 pub slice_bounds-count_run-start : goal.slice_bounds-count_run-start
 slice_bounds-count_run-start c =
     let l = c.loop-i in
-    let xs = c.args.list.now in
-    let t = turn c.args.plan.now c.requires xs l.i l.invariant.0 l.invariant.2 c.min-end.result c.loop-i-test.true
+    let xs = c.args.self.now.list.now in
+    let t = turn c.args.self.now.plan.now c.args.self.now.admitted xs l.i l.invariant.0 l.invariant.2 c.min-end.result c.loop-i-test.true
     (c.min-end.ensures ∙ ap (λ (n : ℕ). min n (length xs)) c.end_from.ensures) in
     omega (arith, t.begins, t.inside)
 
 pub slice_bounds-count_run-end : goal.slice_bounds-count_run-end
 slice_bounds-count_run-end c =
     let l = c.loop-i in
-    let xs = c.args.list.now in
-    let t = turn c.args.plan.now c.requires xs l.i l.invariant.0 l.invariant.2 c.min-end.result c.loop-i-test.true
+    let xs = c.args.self.now.list.now in
+    let t = turn c.args.self.now.plan.now c.args.self.now.admitted xs l.i l.invariant.0 l.invariant.2 c.min-end.result c.loop-i-test.true
     (c.min-end.ensures ∙ ap (λ (n : ℕ). min n (length xs)) c.end_from.ensures) in
     t.inside
 
 pub count_run-after-requires : goal.count_run-after-requires
 count_run-after-requires c =
     let l = c.loop-i in
-    let xs = c.args.list.now in
-    let t = turn c.args.plan.now c.requires xs l.i l.invariant.0 l.invariant.2 c.min-end.result c.loop-i-test.true
+    let xs = c.args.self.now.list.now in
+    let t = turn c.args.self.now.plan.now c.args.self.now.admitted xs l.i l.invariant.0 l.invariant.2 c.min-end.result c.loop-i-test.true
     (c.min-end.ensures ∙ ap (λ (n : ℕ). min n (length xs)) c.end_from.ensures) in
     let u = ap units l.invariant.1 ∙ units_to xs l.i l.invariant.0 in
     omega (arith, run_length xs l.i c.min-end.result (omega (arith, t.begins)) t.inside, t.in_plan, t.begins)
@@ -101,21 +101,21 @@ count_run-after-requires c =
 pub answer-requires : goal.answer-requires
 answer-requires c =
     let l = c.loop-i in
-    let xs = c.args.list.now in
-    let t = turn c.args.plan.now c.requires xs l.i l.invariant.0 l.invariant.2 c.min-end.result c.loop-i-test.true
+    let xs = c.args.self.now.list.now in
+    let t = turn c.args.self.now.plan.now c.args.self.now.admitted xs l.i l.invariant.0 l.invariant.2 c.min-end.result c.loop-i-test.true
     (c.min-end.ensures ∙ ap (λ (n : ℕ). min n (length xs)) c.end_from.ensures) in
     let counted = run_counts xs l.i c.min-end.result (omega (arith, t.begins)) l.c c.count_run-after.result l.invariant.1 c.count_run-after.ensures in
-    ((shape c.args.plan.now c.requires).thousand_units, omega (arith, ap units counted ∙ units_to xs c.min-end.result t.inside, t.in_plan))
+    ((shape c.args.self.now.plan.now c.args.self.now.admitted).thousand_units, omega (arith, ap units counted ∙ units_to xs c.min-end.result t.inside, t.in_plan))
 
 pub before_stop-requires : goal.before_stop-requires
 before_stop-requires c =
     let l = c.loop-i in
-    let xs = c.args.list.now in
-    let t = turn c.args.plan.now c.requires xs l.i l.invariant.0 l.invariant.2 c.min-end.result c.loop-i-test.true
+    let xs = c.args.self.now.list.now in
+    let t = turn c.args.self.now.plan.now c.args.self.now.admitted xs l.i l.invariant.0 l.invariant.2 c.min-end.result c.loop-i-test.true
     (c.min-end.ensures ∙ ap (λ (n : ℕ). min n (length xs)) c.end_from.ensures) in
     let counted = run_counts xs l.i c.min-end.result (omega (arith, t.begins)) l.c c.count_run-after.result l.invariant.1 c.count_run-after.ensures in
-    let stopped = asked c.args.plan.now xs c.min-end.result _ _ _ counted c.answer.ensures c.goes_on.ensures ∙ c.if-not-goes_on.true in
-    (c.requires, stage_between c.args.plan.now (Staged Full) xs c.requires l.i l.invariant.2 c.min-end.result t.same_stage t.begins t.inside t.in_plan l.c l.invariant.1 stopped)
+    let stopped = asked c.args.self.now.plan.now xs c.min-end.result _ _ _ counted c.answer.ensures c.goes_on.ensures ∙ c.if-not-goes_on.true in
+    stage_between c.args.self.now.plan.now (Staged Full) xs c.args.self.now.admitted l.i l.invariant.2 c.min-end.result t.same_stage t.begins t.inside t.in_plan l.c l.invariant.1 stopped
 
 pub returns-then-not-goes_on : goal.returns-then-not-goes_on
 returns-then-not-goes_on c = c.before_stop.ensures
@@ -123,25 +123,25 @@ returns-then-not-goes_on c = c.before_stop.ensures
 pub loop-i-preserved : goal.loop-i-preserved
 loop-i-preserved c =
     let l = c.loop-i in
-    let xs = c.args.list.now in
-    let t = turn c.args.plan.now c.requires xs l.i l.invariant.0 l.invariant.2 c.min-end.result c.loop-i-test.true
+    let xs = c.args.self.now.list.now in
+    let t = turn c.args.self.now.plan.now c.args.self.now.admitted xs l.i l.invariant.0 l.invariant.2 c.min-end.result c.loop-i-test.true
     (c.min-end.ensures ∙ ap (λ (n : ℕ). min n (length xs)) c.end_from.ensures) in
     let counted = run_counts xs l.i c.min-end.result (omega (arith, t.begins)) l.c c.count_run-after.result l.invariant.1 c.count_run-after.ensures in
-    let on = is_on _ (asked c.args.plan.now xs c.min-end.result _ _ _ counted c.answer.ensures c.goes_on.ensures ∙ c.if-not-goes_on.false) in (
+    let on = is_on _ (asked c.args.self.now.plan.now xs c.min-end.result _ _ _ counted c.answer.ensures c.goes_on.ensures ∙ c.if-not-goes_on.false) in (
       t.inside,
       counted,
-      λ z k. stage_steady c.args.plan.now (Staged Full) xs c.requires l.i l.invariant.2 c.min-end.result t.same_stage t.inside z c.min-end.result k (omega arith) on,
+      λ z k. stage_steady c.args.self.now.plan.now (Staged Full) xs c.args.self.now.admitted l.i l.invariant.2 c.min-end.result t.same_stage t.inside z c.min-end.result k (omega arith) on,
     )
 
 pub loop-i-smaller : goal.loop-i-smaller
 loop-i-smaller c =
     let l = c.loop-i in
-    let xs = c.args.list.now in
-    let t = turn c.args.plan.now c.requires xs l.i l.invariant.0 l.invariant.2 c.min-end.result c.loop-i-test.true
+    let xs = c.args.self.now.list.now in
+    let t = turn c.args.self.now.plan.now c.args.self.now.admitted xs l.i l.invariant.0 l.invariant.2 c.min-end.result c.loop-i-test.true
     (c.min-end.ensures ∙ ap (λ (n : ℕ). min n (length xs)) c.end_from.ensures) in
     omega (arith, t.begins, t.inside)
 
 pub returns : goal.returns
 returns c =
     let l = c.loop-i in
-    all_read c.args.plan.now c.requires c.args.list.now l.i l.invariant.0 l.invariant.2 c.loop-i-test.false l.c l.invariant.1
+    all_read c.args.self.now.plan.now c.args.self.now.admitted c.args.self.now.list.now l.i l.invariant.0 l.invariant.2 c.loop-i-test.false l.c l.invariant.1
