@@ -20,9 +20,8 @@ pub fn reply_line(word: &[u8], numbers: &[u32]) -> Reply
     reply.try_extend_from_slice(word).unwrap();
     for n in numbers {
         reply.push(b' ');
-        reply
-            .try_extend_from_slice(digits.format(*n).as_bytes())
-            .unwrap();
+        let text = digits.format(*n);
+        reply.try_extend_from_slice(text.as_bytes()).unwrap();
     }
     reply.push(b'\n');
     reply

@@ -24,12 +24,12 @@ pub fn read_words(line: &[u8]) -> Option<Words>
     let [letter] = fields.next()? else {
         return None;
     };
-    let mut numbers = ArrayVec::new();
-    for field in fields {
-        numbers.try_push(read_number(field)?).ok()?;
-    }
-    Some(Words {
+    let mut words = Words {
         letter: *letter,
-        numbers,
-    })
+        numbers: ArrayVec::new(),
+    };
+    for field in fields {
+        words.numbers.try_push(read_number(field)?).ok()?;
+    }
+    Some(words)
 }

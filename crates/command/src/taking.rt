@@ -14,6 +14,7 @@ use arrayvec::ArrayVec;
 pub type Line = ArrayVec<u8, 256>;
 
 // Adds bytes to a line, as long as there is room.
+#[tactic(auto, using(crate::proofs::Kept::kept_room))]
 fn keep(line: &mut Line, bytes: &[u8])
     ensures { line.new.items ≡ kept line.old.items bytes.now }
 {
@@ -22,6 +23,7 @@ fn keep(line: &mut Line, bytes: &[u8])
 }
 
 // Answers the line that ends with `rest`, and leaves an empty one.
+#[tactic(auto, using(crate::proofs::Kept::kept_rest))]
 fn answer_rest(line: &mut Line, rest: &[u8], sheet: &mut [u32]) -> Reply
     ensures reply { result.items ≡ (answer (kept line.old.items rest.now) sheet.old).reply }
     ensures sheet_after { sheet.new ≡ (answer (kept line.old.items rest.now) sheet.old).words }
@@ -76,6 +78,7 @@ pub fn take_bytes<const N: usize>(
 }
 
 // Answers the line that has not ended yet, if it has a byte. There is room for a reply.
+#[tactic(auto, unfolding(commandmodel::specs::Blocks::input_ended))]
 pub fn end_input<const N: usize>(line: &Line, sheet: &mut [u32], replies: &mut ArrayVec<u8, N>)
     requires { array_vec_len replies.old + longest_reply ≤ N }
     ensures replies_after { replies.new.items ≡ replies.old.items ++ (input_ended line.now.items sheet.old).reply }

@@ -31,7 +31,12 @@ impl Session {
         let mut rest = block;
         while !rest.is_empty() {
             self.replies.clear();
-            let taken = command::take_bytes(rest, &mut self.line, &mut self.sheet, &mut self.replies);
+            let taken = command::take_bytes(
+                rest,
+                &mut self.line,
+                &mut self.sheet,
+                &mut self.replies,
+            );
             rt.write_all(self.replies.as_slice())?;
             rest = &rest[taken..];
         }

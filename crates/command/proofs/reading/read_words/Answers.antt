@@ -33,7 +33,7 @@ loop-field-init c =
     let rest = left c.next.new.self in
     let letter : x.now ≡ slice_index_or x.now 0 0 ∷ [] = one_letter x.now (omega arith) in
     let kept : c.into_iter-field-iterator.result ≡ c.next.new.self = search rules in
-    let empty : c.new-numbers.result.items ≡ [] = search rules in
+    let empty : c.new.result.items ≡ [] = search rules in
     by_fields line (omega arith) x.now rest (sym cut ∙ k) ∙ ap (λ (y : List ℕ). of_letter y (numbers rest)) letter
     ∙ ap (of_letter (slice_index_or x.now 0 0 ∷ [])) (none_read (numbers rest)) ∙ rw (kept, empty)
 
@@ -43,9 +43,9 @@ returns-in_err-read_number c =
     let x = c.in-Some.field in
     let k = next_field _ l.field-iterator c.next-in-loop-field.new.self x c.in-Some.ensures.steps (answers_always _ _ _ (λ f a r q k. search (rules, tests))) in
     let bad : number x.now ≡ None = grind (arith, common_steps) in
-    let letter : ℕ = slice_index_or c.in_ok-next.field-0.now 0 0 in
-    l.invariant ∙ ap (λ (fs : List (List ℕ)). of_letter (letter ∷ []) (onto l.numbers.items (numbers fs))) k
-    ∙ ap (of_letter (letter ∷ [])) (bad_number letter l.numbers.items x.now (left c.next-in-loop-field.new.self) bad) ∙ grind (arith, common_steps)
+    let letter : ℕ = l.words.letter in
+    l.invariant ∙ ap (λ (fs : List (List ℕ)). of_letter (letter ∷ []) (onto l.words.numbers.items (numbers fs))) k
+    ∙ ap (of_letter (letter ∷ [])) (bad_number letter l.words.numbers.items x.now (left c.next-in-loop-field.new.self) bad) ∙ grind (arith, common_steps)
 
 pub loop-field-preserved : goal.loop-field-preserved
 loop-field-preserved c =
@@ -54,10 +54,10 @@ loop-field-preserved c =
     let k = next_field _ l.field-iterator c.next-in-loop-field.new.self x c.in-Some.ensures.steps (answers_always _ _ _ (λ f a r q k. search (rules, tests))) in
     let n = c.in_ok-read_number.field-0 in
     let good : number x.now ≡ Some n = sym c.read_number.ensures ∙ c.in_ok-read_number.was in
-    let pushed : c.try_push.new.self.items ≡ l.numbers.items ++ n ∷ [] = grind (arith, common_steps) in
-    let letter : ℕ = slice_index_or c.in_ok-next.field-0.now 0 0 in
-    l.invariant ∙ ap (λ (fs : List (List ℕ)). of_letter (letter ∷ []) (onto l.numbers.items (numbers fs))) k
-    ∙ ap (of_letter (letter ∷ [])) (one_more letter l.numbers.items x.now (left c.next-in-loop-field.new.self) n good)
+    let pushed : c.try_push.new.self.items ≡ l.words.numbers.items ++ n ∷ [] = grind (arith, common_steps) in
+    let letter : ℕ = l.words.letter in
+    l.invariant ∙ ap (λ (fs : List (List ℕ)). of_letter (letter ∷ []) (onto l.words.numbers.items (numbers fs))) k
+    ∙ ap (of_letter (letter ∷ [])) (one_more letter l.words.numbers.items x.now (left c.next-in-loop-field.new.self) n good)
     ∙ ap (λ (ns : List ℕ). of_letter (letter ∷ []) (onto ns (numbers (left c.next-in-loop-field.new.self)))) (sym pushed)
 
 pub returns-in_err-ok : goal.returns-in_err-ok
@@ -67,14 +67,14 @@ returns-in_err-ok c =
     let k = next_field _ l.field-iterator c.next-in-loop-field.new.self x c.in-Some.ensures.steps (answers_always _ _ _ (λ f a r q k. search (rules, tests))) in
     let n = c.in_ok-read_number.field-0 in
     let good : number x.now ≡ Some n = sym c.read_number.ensures ∙ c.in_ok-read_number.was in
-    let full : length l.numbers.items ≡ 35 = grind (arith, common_steps) in
-    let letter : ℕ = slice_index_or c.in_ok-next.field-0.now 0 0 in
-    l.invariant ∙ ap (λ (fs : List (List ℕ)). of_letter (letter ∷ []) (onto l.numbers.items (numbers fs))) k
-    ∙ no_room letter l.numbers.items x.now (left c.next-in-loop-field.new.self) n good full ∙ grind (arith, common_steps)
+    let full : length l.words.numbers.items ≡ 35 = grind (arith, common_steps) in
+    let letter : ℕ = l.words.letter in
+    l.invariant ∙ ap (λ (fs : List (List ℕ)). of_letter (letter ∷ []) (onto l.words.numbers.items (numbers fs))) k
+    ∙ no_room letter l.words.numbers.items x.now (left c.next-in-loop-field.new.self) n good full ∙ grind (arith, common_steps)
 
 pub returns : goal.returns
 returns c =
     let l = c.loop-field in
     let k = no_field l.field-iterator c.in-None.ensures.steps.0 in
-    let letter : ℕ = slice_index_or c.in_ok-next.field-0.now 0 0 in
-    l.invariant ∙ ap (λ (fs : List (List ℕ)). of_letter (letter ∷ []) (onto l.numbers.items (numbers fs))) k ∙ all_read letter l.numbers.items
+    let letter : ℕ = l.words.letter in
+    l.invariant ∙ ap (λ (fs : List (List ℕ)). of_letter (letter ∷ []) (onto l.words.numbers.items (numbers fs))) k ∙ all_read letter l.words.numbers.items

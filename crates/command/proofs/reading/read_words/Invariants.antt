@@ -5,4 +5,4 @@ use Rattle.command.proofs.Numbers.{left, onto}
 use Rattle.command.proofs.reading.read_words.Given as goal
 
 abbrev pub invariant-loop-field : goal.invariant-loop-field
-invariant-loop-field l = command l.line ≡ of_letter (l.letter ∷ []) (onto l.numbers.items (numbers (left l.field-iterator)))
+invariant-loop-field l = command l.line ≡ of_letter (l.words.letter ∷ []) (onto l.words.numbers.items (numbers (left l.field-iterator)))
