@@ -1,5 +1,5 @@
 // Both bounds of a valuation, and the refusals. The scratch is 01's bench.
-ghost use Rattle.std.specs.Prelude.{◌≡◌, true, ◌*◌, ◌≤◌, length};
+ghost use Rattle.std.specs.Prelude.{◌≡◌, true, ◌*◌, ◌^◌, ◌≤◌, ◌<◌, length};
 ghost use Rattle.plan.specs.Plan.{stages, total, last_reject1, last_reject2, admitted};
 ghost use Rattle.chance.specs.declared.setting.Kind.TheVariants.{Left};
 ghost use Rattle.chance.specs.Bounds.{weight_sum, Proportions};
@@ -8,7 +8,7 @@ ghost use Rattle.chance.specs.Reply.{fitted_words, fitted_answer, weighted_answe
 
 use crate::answers::{Bounds, Interval};
 use crate::backward::bound;
-use crate::mean::Weights;
+use crate::mean::{Rounding, Weights};
 use crate::setting::{Kind, Setting, Worth};
 use plan::Refusal;
 
@@ -33,9 +33,9 @@ fn bounds(plan: &[u32], scratch: &mut [u64], s: Setting) -> Bounds
 {
     let half = s.r1 * s.r2;
     let mut rounded = s;
-    rounded.up = false;
+    rounded.rounding = Rounding::Down;
     let low = bound(plan, scratch, rounded);
-    rounded.up = true;
+    rounded.rounding = Rounding::Up;
     let high = bound(plan, &mut scratch[half..], rounded);
     Interval { low, high }
 }
@@ -63,7 +63,7 @@ pub fn fitted(
         worth,
         weights,
         kind,
-        up: false,
+        rounding: Rounding::Down,
     };
     Ok(bounds(plan, scratch, s))
 }
@@ -75,7 +75,7 @@ pub fn weighted(
     worth: Worth,
     scratch: &mut [u64],
 ) -> Result<Bounds, Refusal>
-    requires { weight_sum weights ≤ 12884901885 }
+    requires { weight_sum weights < 2 ^ 64 }
     ensures value { result ≡ weighted_answer plan.now weights worth (length scratch.old) }
     ensures keeps { Keeps plan.now weights scratch.old scratch.new }
 {

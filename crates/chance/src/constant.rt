@@ -6,7 +6,6 @@ ghost use Rattle.chance.specs.Bounds.{weight_sum};
 ghost use Rattle.chance.specs.Constant.{constant_sum};
 
 use crate::division::Reciprocal;
-use crate::mean::rounded_by;
 use crate::setting::Setting;
 
 // What is the same for all states: the weights of a marginal and of a bad unit, and what is added to the products,
@@ -37,7 +36,7 @@ impl Constant {
         let w = setting.weights;
         let total = w.sum();
         let divisor = Reciprocal::of(total);
-        let added = w.good * (1 << 40) + total * setting.worth.cost + rounded_by(setting.up, total);
+        let added = w.good * (1 << 40) + total * setting.worth.cost + setting.rounding.raised(total);
         Constant {
             setting,
             marginal: w.marginal * divisor.scale,

@@ -53,7 +53,7 @@ impl Means for Drawn {
         let s = self.setting;
         s.worth.cost
             + s.weights_at(y, g, b)
-                .mean(self.divisor, s.up, good, marginal, bad)
+                .mean(self.divisor, s.rounding, good, marginal, bad)
     }
 }
 

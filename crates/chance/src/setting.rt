@@ -3,7 +3,7 @@ ghost use Rattle.std.specs.Prelude.{◌≡◌, ◌+◌, ◌*◌, ◌^◌, ◌≤
 ghost use Rattle.chance.specs.Bounds.{Proportions};
 ghost use Rattle.chance.specs.Chance.{scale};
 
-use crate::mean::Weights;
+use crate::mean::{Rounding, Weights};
 
 // The value at acceptance (that at rejection is 0), and the cost of each further unit.
 #[derive(Clone, Copy)]
@@ -50,7 +50,7 @@ pub struct Setting {
     pub worth: Worth,
     pub weights: Weights,
     pub kind: Kind,
-    pub up: bool,
+    pub rounding: Rounding,
     ghost proportions: { Proportions weights },
 }
 
