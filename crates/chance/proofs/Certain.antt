@@ -15,9 +15,7 @@ use Rattle.plan.specs.Stopping.{earliest}
 use Rattle.plan.specs.Promise.{Promise}
 use Rattle.plan.proofs.Promise.{promise, counting}
 use Rattle.chance.specs.declared.mean.Weights.{Weights}
-use Rattle.chance.specs.declared.mean.Rounding.{Rounding}
-use Rattle.chance.specs.declared.mean.Rounding.TheVariants.{Down, Up}
-use Rattle.chance.specs.Bounds.{weight_sum, weighted, weighted_sum, rounded, terminal, bound}
+use Rattle.chance.specs.Bounds.{weight_sum, weighted, weighted_sum, Rounding, down, up, rounded, terminal, bound}
 use Rattle.chance.specs.Chance.{scale, chance_value, left_of}
 use Rattle.chance.specs.Reply.{weights_of}
 use Rattle.chance.specs.Lot.{lot_bound, lot_low, lot_high}
@@ -89,4 +87,4 @@ certain_law plan t ok enough =
     λ r. certain r p kept (weights_of t 0 0) 0 scale (λ c. nongood c ≡ 0) (all_good p kept t enough) in
     let bad : (r : Rounding) → lot_bound r p (weights_of 0 0 t) ≡ 0 =
     λ r. certain r p kept (weights_of 0 0 t) 2 0 (λ c. nonbad c ≡ 0) (all_bad p kept t enough) in
-    ((λ i. record { low = good Down i; high = good Up i }), λ i. record { low = bad Down i; high = bad Up i })
+    ((λ i. record { low = good down i; high = good up i }), λ i. record { low = bad down i; high = bad up i })

@@ -14,8 +14,7 @@ use Rattle.plan.specs.Counts.{units, no_units, add_units}
 use Rattle.plan.specs.Sample.{verdict}
 use Rattle.plan.proofs.Promise.{promise, counting}
 use Rattle.chance.specs.declared.mean.Weights.{Weights}
-use Rattle.chance.specs.declared.mean.Rounding.TheVariants.{Up}
-use Rattle.chance.specs.Bounds.{weight_sum, weight}
+use Rattle.chance.specs.Bounds.{up, weight_sum, weight}
 use Rattle.chance.specs.Chance.{scale, chance_value, left_of, indicator, accepted_sum}
 use Rattle.chance.specs.Laws.{Steady, sum_product}
 use Rattle.chance.specs.Lot.{accepted_draws, numbers, lot_low, lot_high}
@@ -81,5 +80,5 @@ lot_law plan lot ok whole enough =
       close = omega (arith, width v (total p) no_units);
       close_as_written = omega (arith, width v (total p) no_units);
       ordered = le_of_mul-le-mul_right (le_trans d.0 d.1) (rw (counted (total p) lot) (some_draws (length lot) (total p) enough));
-      at_most_one = at_most_scale Up p (left_of w) (total p) no_units;
+      at_most_one = at_most_scale up p (left_of w) (total p) no_units;
     }

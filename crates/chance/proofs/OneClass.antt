@@ -19,9 +19,7 @@ use Rattle.plan.specs.Promise.{earliest_rule, Promise}
 use Rattle.plan.proofs.Promise.{promise, counting, histories}
 use Rattle.plan.proofs.Sample.{classing}
 use Rattle.chance.specs.declared.mean.Weights.{Weights}
-use Rattle.chance.specs.declared.mean.Rounding.{Rounding}
-use Rattle.chance.specs.declared.mean.Rounding.TheVariants.{Down, Up}
-use Rattle.chance.specs.Bounds.{weight_sum, weighted, weighted_sum, rounded, terminal, bound}
+use Rattle.chance.specs.Bounds.{weight_sum, weighted, weighted_sum, Rounding, down, up, rounded, terminal, bound}
 use Rattle.chance.specs.Chance.{constant}
 use Rattle.chance.specs.Units.{while_going_on, units_after, stop_units, unit_scale, units_value, units_bound, units_low, units_high}
 use Rattle.chance.specs.UnitsLaws.{one_class, OneClassLaw, OneVerdictLaw}
@@ -78,7 +76,7 @@ unfolding units_low units_high
 one_class_law plan x k ok l some =
     let p : List Stage = stages plan in
     let stop : (r : Rounding) → units_bound r p (one_class x k) ≡ stop_units p (replicate (total p) x) * unit_scale = λ r. at_stop r p (promise plan ok) x k l some in
-    (λ i. record { low = stop Down i; high = stop Up i })
+    (λ i. record { low = stop down i; high = stop up i })
 
 -- ---- the verdict
 

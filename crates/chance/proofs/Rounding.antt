@@ -10,51 +10,51 @@ use Rattle.plan.specs.declared.stage.Answer.{Answer}
 use Rattle.plan.specs.declared.stage.Answer.TheVariants.{GoOn, Accept, Reject}
 use Rattle.plan.specs.Counts.{add_units}
 use Rattle.chance.specs.declared.mean.Weights.{Weights}
-use Rattle.chance.specs.declared.mean.Rounding.{Rounding}
-use Rattle.chance.specs.declared.mean.Rounding.TheVariants.{Down, Up}
-use Rattle.chance.specs.Bounds.{weight_sum, weighted, weighted_sum, raised, rounded, Valuation, terminal, step, bound}
+use Rattle.chance.specs.Bounds.{weight_sum, weighted, weighted_sum, Rounding, down, up, rounded, Valuation, terminal, step, bound}
+use Rattle.chance.specs.Layer.{rounding}
 use Rattle.chance.specs.Laws.{WidthLaw}
 
 div_below : (k x y : ℕ) → 0 < k → x < y * k → x / k < y
 div_below k x y h l = (div-lt_iff_lt-mul h).1 l
 
 -- rounding up what is at most b + d·n gives at most n + 1 more than rounding b down, for every divisor
-round_close : (d a b n : ℕ) → a ≤ b + d * n → rounded Up a d ≤ rounded Down b d + (n + 1)
+round_close : (d a b n : ℕ) → a ≤ b + d * n → rounded up a d ≤ rounded down b d + (n + 1)
 round_close zero a b n h = simp div-zero (omega arith)
 round_close (suc e) a b n h =
     let q = lt-div-mul-add {a = b} {b = suc e} (omega arith) in
     let r = div_below (suc e) (a + (suc e - 1)) (b / suc e + (n + 2)) (omega arith) (simp add-mul (omega (arith, mul_comm (suc e) n))) in
     omega arith
 
-pub floor_le : (a d : ℕ) → rounded Down a d * d ≤ a
+pub floor_le : (a d : ℕ) → rounded down a d * d ≤ a
 floor_le a d = div-mul-le_self a d
 
-pub ceiling_ge : (a d : ℕ) → 0 < d → a ≤ rounded Up a d * d
+pub ceiling_ge : (a d : ℕ) → 0 < d → a ≤ rounded up a d * d
 ceiling_ge a d h = omega (arith, lt-div-mul-add {a = a + (d - 1)} {b = d} h)
 
 -- by what is added, a quotient is rounded
-pub rounds : (r : Rounding) (n d : ℕ) → (n + raised r d) / d ≡ rounded r n d
-rounds Down n d = ap (λ (k : ℕ). k / d) (add-zero n)
-rounds Up n d = refl
+pub rounds : (up : Bool) (n d : ℕ) → (n + cond up (d - 1) 0) / d ≡ rounded (rounding up) n d
+rounds true n d = refl
+rounds false n d = ap (λ (k : ℕ). k / d) (add-zero n)
 
+-- a mean is at most what its values are; divided by 0 it is 0
 pub rounded_le : (r : Rounding) (n d most : ℕ) → n ≤ d * most → rounded r n d ≤ most
-rounded_le Down n d most l = div-le_of_le-mul d l
-rounded_le Up n zero most l = simp div-zero (omega arith)
-rounded_le Up n (suc e) most l =
+rounded_le down n d most l = div-le_of_le-mul d l
+rounded_le up n zero most l = simp div-zero (omega arith)
+rounded_le up n (suc e) most l =
     omega (arith, div_below (suc e) (n + (suc e - 1)) (most + 1) (omega arith) (simp add-mul (omega (arith, mul_comm (suc e) most))))
 
 pub rounded_zero : (r : Rounding) (d : ℕ) → rounded r 0 d ≡ 0
-rounded_zero Down d = zero-div d
-rounded_zero Up zero = refl
-rounded_zero Up (suc e) = div-eq_of_lt (omega arith)
+rounded_zero down d = zero-div d
+rounded_zero up zero = refl
+rounded_zero up (suc e) = div-eq_of_lt (omega arith)
 
 -- the mean of three equal values is that value
 sum_even : (w : Weights) (k : ℕ) → weighted w k k k ≡ weight_sum w * k
 sum_even w k = simp add-mul
 
 rounded_even : (r : Rounding) (d k : ℕ) → 0 < d → rounded r (d * k) d ≡ k
-rounded_even Down d k h = mul-div_cancel_left k h
-rounded_even Up d k h = mul-add-div h k (d - 1) ∙ ap (λ (n : ℕ). k + n) (div-eq_of_lt (omega arith)) ∙ add-zero k
+rounded_even down d k h = mul-div_cancel_left k h
+rounded_even up d k h = mul-add-div h k (d - 1) ∙ ap (λ (n : ℕ). k + n) (div-eq_of_lt (omega arith)) ∙ add-zero k
 
 pub mean_even : (r : Rounding) (w : Weights) (k : ℕ) → 0 < weight_sum w → rounded r (weighted w k k k) (weight_sum w) ≡ k
 mean_even r w k h = ap (λ (n : ℕ). rounded r n (weight_sum w)) (sum_even w k) ∙ rounded_even r (weight_sum w) k h
@@ -69,7 +69,7 @@ weighted_le w f g n h =
 
 -- a step's two values come apart by one more than those that it is made of
 step_close : (v : Valuation) (above below : Counts → ℕ) (c : Counts) (n : ℕ)
-    → ((x : ℕ) → x ≤ 2 → above (add_units x 1 c) ≤ below (add_units x 1 c) + n) → step Up v above c ≤ step Down v below c + (n + 1)
+    → ((x : ℕ) → x ≤ 2 → above (add_units x 1 c) ≤ below (add_units x 1 c) + n) → step up v above c ≤ step down v below c + (n + 1)
 step_close v above below c n h = go (v.decision c)
   where
     w : Weights
@@ -81,15 +81,15 @@ step_close v above below c n h = go (v.decision c)
     g : ℕ → ℕ
     g x = below (add_units x 1 c)
 
-    go : (a : Answer) → terminal v a (v.cost + rounded Up (weighted_sum w f) (weight_sum w)) ≤ terminal v a (v.cost + rounded Down (weighted_sum w g) (weight_sum w)) + (n + 1)
+    go : (a : Answer) → terminal v a (v.cost + rounded up (weighted_sum w f) (weight_sum w)) ≤ terminal v a (v.cost + rounded down (weighted_sum w g) (weight_sum w)) + (n + 1)
     go GoOn = omega (arith, round_close (weight_sum w) (weighted_sum w f) (weighted_sum w g) n (weighted_le w f g n h))
     go Accept = omega arith
     go Reject = omega arith
 
 -- with no unit left the two are equal
-last_equal : (v : Valuation) (c : Counts) → bound Up v 0 c ≡ bound Down v 0 c
-last_equal v c = simp (mul-zero, rounded_zero Up, zero-div)
+last_equal : (v : Valuation) (c : Counts) → bound up v 0 c ≡ bound down v 0 c
+last_equal v c = simp (mul-zero, rounded_zero up, zero-div)
 
 pub width : WidthLaw
 width v zero c = omega (arith, last_equal v c)
-width v (suc n) c = omega (arith, step_close v (bound Up v n) (bound Down v n) c n (λ x l. width v n (add_units x 1 c)))
+width v (suc n) c = omega (arith, step_close v (bound up v n) (bound down v n) c n (λ x l. width v n (add_units x 1 c)))

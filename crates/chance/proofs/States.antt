@@ -14,10 +14,9 @@ use Rattle.chance.specs.declared.mean.Weights.{Weights}
 use Rattle.chance.specs.declared.setting.Setting.{Setting}
 use Rattle.chance.specs.declared.setting.Kind.{Kind}
 use Rattle.chance.specs.declared.setting.Kind.TheVariants.{Same, Left}
-use Rattle.chance.specs.declared.mean.Rounding.{Rounding}
-use Rattle.chance.specs.Bounds.{weight_sum, weighted, rounded}
+use Rattle.chance.specs.Bounds.{weight_sum, weighted, Rounding, rounded}
 use Rattle.chance.specs.Constant.{constant_value}
-use Rattle.chance.specs.Layer.{weights_by, setting_weights, at, word, state_value, further, Values}
+use Rattle.chance.specs.Layer.{rounding, weights_by, setting_weights, at, word, state_value, further, Values}
 use Rattle.chance.proofs.Rounding.{rounded_le}
 
 -- ---- the mean of three values, none above m
@@ -108,5 +107,5 @@ module _ (s : Setting) (before : List ℕ) (y g b : ℕ) where
       = λ n k l. word_most s.r1 s.r2 before n k m (λ p q. h (n * s.r2 + k) (omega (arith, mul-le-mul_right s.r2 l)) (inside s.r1 s.r2 n k p q)) in
       omega (
         arith,
-        mean_at_most (setting_weights s (at y g b)) (at_most g b (omega arith), at_most (g + 1) b (omega arith), at_most (g + 1) (b + 1) (omega arith)) s.rounding,
+        mean_at_most (setting_weights s (at y g b)) (at_most g b (omega arith), at_most (g + 1) b (omega arith), at_most (g + 1) (b + 1) (omega arith)) (rounding s.up),
       )

@@ -7,18 +7,16 @@ use native.Mathlib.Omega.{arith}
 use Rattle.chance.specs.declared.division.Reciprocal.{Reciprocal}
 use Rattle.chance.specs.declared.setting.Setting.{Setting}
 use Rattle.chance.specs.declared.constant.Constant.{Constant}
-use Rattle.chance.specs.declared.mean.Rounding.{Rounding}
-use Rattle.chance.specs.declared.mean.Rounding.TheVariants.{Down, Up}
-use Rattle.chance.specs.Bounds.{weight_sum, weighted, raised}
+use Rattle.chance.specs.Bounds.{weight_sum, weighted}
 use Rattle.chance.specs.Chance.{scale}
 use Rattle.chance.specs.Constant.{constant_sum, constant_value}
 use Rattle.chance.proofs.Rounding.{rounds}
 use Rattle.chance.proofs.Reciprocals.{scaled, scaled_fits}
 use Rattle.chance.proofs.States.{products}
 
-raised_most : (r : Rounding) (n : ℕ) → raised r n ≤ n
-raised_most Up n = omega arith
-raised_most Down n = omega arith
+added_most : (b : Bool) (n : ℕ) → cond b (n - 1) 0 ≤ n
+added_most true n = omega arith
+added_most false n = omega arith
 
 -- ---- what is the same for all states
 
@@ -36,7 +34,7 @@ small s d of_sum =
       of_cost = of_cost;
       marginal = omega (arith, scaled_fits s.weights.marginal d 1 (omega (arith, of_sum)));
       bad = omega (arith, scaled_fits s.weights.bad d 1 (omega (arith, of_sum)));
-      added = scaled_fits (constant_sum s) d 2199023255553 (omega (arith, of_sum, of_cost, raised_most s.rounding (weight_sum s.weights)));
+      added = scaled_fits (constant_sum s) d 2199023255553 (omega (arith, of_sum, of_cost, added_most s.up (weight_sum s.weights)));
     }
 
 -- ---- one state
@@ -64,7 +62,7 @@ blended t {good} {marginal} {bad} m =
     let w = s.weights in
     let d = t.divisor in
     let rest : ℕ = 1099511627776 - good in
-    let more : ℕ = raised s.rounding (weight_sum w) in
+    let more : ℕ = cond s.up (weight_sum w - 1) 0 in
     let mean : ℕ = weighted w good marginal bad + more in
     let n : ℕ = weight_sum w * (s.worth.cost + rest) + mean in
     let sum : t.marginal * (marginal + rest) + t.bad * (bad + rest) + t.added ≡ n * d.scale
@@ -73,13 +71,13 @@ blended t {good} {marginal} {bad} m =
     ∙ ap (λ (k : ℕ). k * d.scale) (spread w.good w.marginal w.bad good marginal bad rest s.worth.cost more (omega (arith, m.0))) in
     let double : s.worth.cost + rest ≤ 2199023255552 = omega (arith, s.worth.fits) in
     let few : n ≤ d.by * 3298534883329
-    = omega (arith, t.of_sum, products w m, mul-le-mul_left (weight_sum w) double, raised_most s.rounding (weight_sum w)) in
+    = omega (arith, t.of_sum, products w m, mul-le-mul_left (weight_sum w) double, added_most s.up (weight_sum w)) in
     record {
       fits = omega (arith, sum, scaled_fits n d 3298534883329 few);
       value = ap (λ (k : ℕ). k / (d.by * d.scale)) sum
           ∙ scaled n d
           ∙ ap (λ (k : ℕ). n / k) t.of_sum
           ∙ mul-add-div s.proportions.some (s.worth.cost + rest) mean
-          ∙ ap (λ (k : ℕ). s.worth.cost + rest + k) (rounds s.rounding (weighted w good marginal bad) (weight_sum w))
+          ∙ ap (λ (k : ℕ). s.worth.cost + rest + k) (rounds s.up (weighted w good marginal bad) (weight_sum w))
           ∙ omega arith;
     }

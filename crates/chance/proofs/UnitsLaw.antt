@@ -18,9 +18,7 @@ use Rattle.plan.specs.Stopping.{earliest}
 use Rattle.plan.specs.Promise.{Promise}
 use Rattle.plan.proofs.Promise.{promise, counting}
 use Rattle.chance.specs.declared.mean.Weights.{Weights}
-use Rattle.chance.specs.declared.mean.Rounding.{Rounding}
-use Rattle.chance.specs.declared.mean.Rounding.TheVariants.{Down, Up}
-use Rattle.chance.specs.Bounds.{weight_sum, weighted_sum, rounded, terminal, step, bound, weight_product, sequence_value, value_sum}
+use Rattle.chance.specs.Bounds.{down, up, weight_sum, weighted_sum, Rounding, rounded, terminal, step, bound, weight_product, sequence_value, value_sum}
 use Rattle.chance.specs.Chance.{constant}
 use Rattle.chance.specs.Units.{while_going_on, units_after, stop_units, stop_sum, unit_scale, units_value, units_low, units_high}
 use Rattle.chance.specs.UnitsLaws.{UnitsLaw}
@@ -103,6 +101,6 @@ units_law plan w ok some =
       close = omega (arith, width v (total p) no_units);
       close_as_written = omega (arith, width v (total p) no_units);
       ordered = le_of_mul-le-mul_right (le_trans d.0 d.1) (one-le-pow (total p) (weight_sum w) some);
-      at_least_one = units_least Down p kept w (total p);
-      at_most_all = units_most Up p kept w (total p) no_units (omega arith);
+      at_least_one = units_least down p kept w (total p);
+      at_most_all = units_most up p kept w (total p) no_units (omega arith);
     }

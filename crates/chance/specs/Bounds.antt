@@ -6,8 +6,6 @@ use Rattle.plan.specs.declared.stage.Answer.{Answer}
 use Rattle.plan.specs.declared.stage.Answer.TheVariants.{GoOn, Accept, Reject}
 use Rattle.plan.specs.Counts.{add_units}
 use Rattle.chance.specs.declared.answers.Interval.{Interval}
-use Rattle.chance.specs.declared.mean.Rounding.{Rounding}
-use Rattle.chance.specs.declared.mean.Rounding.TheVariants.{Down, Up}
 use Rattle.chance.specs.declared.mean.Weights.{Weights}
 
 -- low and high
@@ -38,15 +36,13 @@ weighted w good marginal bad = w.good * good + w.marginal * marginal + w.bad * b
 abbrev pub weighted_sum : Weights → (ℕ → ℕ) → ℕ
 weighted_sum w f = weighted w (f 0) (f 1) (f 2)
 
--- what a number is raised by before it is divided by d
-abbrev pub raised : Rounding → ℕ → ℕ
-raised Down d = 0
-raised Up d = d - 1
+pub data Rounding : Type 0 where
+  down up : Rounding
 
 -- n / d, rounded
 abbrev pub rounded : Rounding → ℕ → ℕ → ℕ
-rounded Down n d = n / d
-rounded Up n d = (n + (d - 1)) / d
+rounded down n d = n / d
+rounded up n d = (n + (d - 1)) / d
 
 -- what is expected: where inspection stops, the weights of the next unit by the counts so far, the values at acceptance and at
 -- rejection, and the cost of each further unit

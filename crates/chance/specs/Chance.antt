@@ -9,9 +9,7 @@ use Rattle.plan.specs.Counts.{no_units}
 use Rattle.plan.specs.Stopping.{earliest}
 use Rattle.plan.specs.Sample.{verdict}
 use Rattle.chance.specs.declared.mean.Weights.{Weights}
-use Rattle.chance.specs.declared.mean.Rounding.{Rounding}
-use Rattle.chance.specs.declared.mean.Rounding.TheVariants.{Down, Up}
-use Rattle.chance.specs.Bounds.{Valuation, bound, sum_over, weight_product}
+use Rattle.chance.specs.Bounds.{Rounding, down, up, Valuation, bound, sum_over, weight_product}
 
 -- the chance 1, in units of 2^-40
 abbrev pub scale : ℕ
@@ -34,10 +32,10 @@ abbrev pub chance_bound : Rounding → List Stage → Weights → ℕ
 chance_bound r p w = bound r (chance_value p (constant w)) (total p) no_units
 
 unfoldable pub low : List Stage → Weights → ℕ
-low = chance_bound Down
+low = chance_bound down
 
 unfoldable pub high : List Stage → Weights → ℕ
-high = chance_bound Up
+high = chance_bound up
 
 -- 1 for an accepted sample
 abbrev pub indicator : Answer → ℕ

@@ -8,8 +8,7 @@ use Rattle.plan.specs.Plan.{stages, total, admitted}
 use Rattle.plan.specs.Counts.{add_units}
 use Rattle.plan.specs.Refusal.{First, RefusedByNumber}
 use Rattle.chance.specs.declared.mean.Weights.{Weights}
-use Rattle.chance.specs.declared.mean.Rounding.TheVariants.{Down, Up}
-use Rattle.chance.specs.Bounds.{weight_sum, weight, Valuation, bound, value_sum}
+use Rattle.chance.specs.Bounds.{weight_sum, weight, down, up, Valuation, bound, value_sum}
 use Rattle.chance.specs.Chance.{scale, constant, low, high, accepted_sum}
 use Rattle.chance.specs.Fraction.{quotient, Exactly}
 use Rattle.chance.specs.Reply.{bounds_reply, chart_reply, refusals, chance_answer, chart_answer, Keeps}
@@ -18,7 +17,7 @@ use Rattle.chance.specs.Reply.{bounds_reply, chart_reply, refusals, chance_answe
 
 -- the two bounds come apart by at most one for each unit left
 abbrev pub WidthLaw : Type 0
-WidthLaw = (v : Valuation) (n : ℕ) (c : Counts) → bound Up v n c ≤ bound Down v n c + n
+WidthLaw = (v : Valuation) (n : ℕ) (c : Counts) → bound up v n c ≤ bound down v n c + n
 
 -- weights whose sum depends on the number of units alone, at the counts that have a weight
 pub record Steady (v : Valuation) (sums : ℕ → ℕ) (Reached : ℕ → Counts → Type 0) : Type 0 where
@@ -33,7 +32,7 @@ sum_product sums y (suc n) = sums y * sum_product sums (suc y) n
 -- the two bounds enclose the exact sum
 abbrev pub RoundingLaw : Type 1
 RoundingLaw = (v : Valuation) (sums : ℕ → ℕ) (Reached : ℕ → Counts → Type 0) → Steady v sums Reached → (n y : ℕ) (c : Counts) → Reached y c →
-    (bound Down v n c * sum_product sums y n ≤ value_sum v n c) × (value_sum v n c ≤ bound Up v n c * sum_product sums y n)
+    (bound down v n c * sum_product sums y n ≤ value_sum v n c) × (value_sum v n c ≤ bound up v n c * sum_product sums y n)
 
 -- ---- the chance of acceptance
 

@@ -12,9 +12,12 @@ use Rattle.chance.specs.declared.setting.Kind.{Kind}
 use Rattle.chance.specs.declared.setting.Kind.TheVariants.{Same, Left}
 use Rattle.chance.specs.declared.setting.Setting.{Setting}
 use Rattle.chance.specs.declared.row.Undecided.{Undecided}
-use Rattle.chance.specs.declared.mean.Rounding.TheVariants.{Down, Up}
-use Rattle.chance.specs.Bounds.{Bounds, weight_sum, weighted, rounded, Valuation, step, bound}
+use Rattle.chance.specs.Bounds.{Bounds, weight_sum, weighted, Rounding, down, up, rounded, Valuation, step, bound}
 use Rattle.chance.specs.Chance.{scale, left_of}
+
+abbrev pub rounding : Bool → Rounding
+rounding false = down
+rounding true = up
 
 -- constant weights, or what is left of them
 abbrev pub weights_by : Kind → Weights → Counts → Weights
@@ -35,7 +38,7 @@ setting_value plan s = valuation plan s.worth s.weights s.kind
 
 -- both bounds before any unit
 abbrev pub valued_bounds : List ℕ → Valuation → Bounds
-valued_bounds plan v = record { low = bound Down v (total (stages plan)) no_units; high = bound Up v (total (stages plan)) no_units }
+valued_bounds plan v = record { low = bound down v (total (stages plan)) no_units; high = bound up v (total (stages plan)) no_units }
 
 -- the counts of y units of which g are nongood and b bad
 abbrev pub at : ℕ → ℕ → ℕ → Counts
@@ -128,7 +131,7 @@ pub record Filled (from to value : ℕ) (before after : List ℕ) : Type 0 where
 -- the value of a state where inspection goes on, by the values after a good, a marginal and a bad unit
 abbrev pub state_value : Setting → ℕ → ℕ → ℕ → ℕ → ℕ → ℕ → ℕ
 state_value s y g b good marginal bad =
-    s.worth.cost + rounded s.rounding (weighted (setting_weights s (at y g b)) good marginal bad) (weight_sum (setting_weights s (at y g b)))
+    s.worth.cost + rounded (rounding s.up) (weighted (setting_weights s (at y g b)) good marginal bad) (weight_sum (setting_weights s (at y g b)))
 
 -- by the words one unit on
 abbrev pub further : Setting → List ℕ → ℕ → ℕ → ℕ → ℕ
@@ -177,7 +180,7 @@ open_value s y reject before g b = by_limits s 0 reject b (further s before y g 
 
 -- that of a state by the plan
 abbrev pub step_value : List ℕ → Setting → ℕ → List ℕ → ℕ → ℕ → ℕ
-step_value plan s y before g b = step s.rounding (setting_value plan s) (word_of s before) (at y g b)
+step_value plan s y before g b = step (rounding s.up) (setting_value plan s) (word_of s before) (at y g b)
 
 -- after a step of the whole layer
 pub record SteppedLayer (plan : List ℕ) (s : Setting) (y : ℕ) (before after : List ℕ) : Type 0 where

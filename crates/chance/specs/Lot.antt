@@ -11,9 +11,7 @@ use Rattle.plan.specs.Counts.{no_units}
 use Rattle.plan.specs.Refusal.{Row, first_refusal}
 use Rattle.plan.specs.Sample.{verdict}
 use Rattle.chance.specs.declared.mean.Weights.{Weights}
-use Rattle.chance.specs.declared.mean.Rounding.{Rounding}
-use Rattle.chance.specs.declared.mean.Rounding.TheVariants.{Down, Up}
-use Rattle.chance.specs.Bounds.{Bounds, weight_sum, bound}
+use Rattle.chance.specs.Bounds.{Bounds, weight_sum, Rounding, down, up, bound}
 use Rattle.chance.specs.Chance.{chance_value, left_of, indicator}
 use Rattle.chance.specs.Reply.{plan_row, scratch_row, Kept}
 
@@ -57,10 +55,10 @@ abbrev pub lot_bound : Rounding → List Stage → Weights → ℕ
 lot_bound r p lot = bound r (chance_value p (left_of lot)) (total p) no_units
 
 unfoldable pub lot_low : List Stage → Weights → ℕ
-lot_low = lot_bound Down
+lot_low = lot_bound down
 
 unfoldable pub lot_high : List Stage → Weights → ℕ
-lot_high = lot_bound Up
+lot_high = lot_bound up
 
 -- ---- the answer
 

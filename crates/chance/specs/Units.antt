@@ -13,9 +13,7 @@ use Rattle.plan.specs.Counts.{no_units, add_units}
 use Rattle.plan.specs.Stopping.{earliest}
 use Rattle.plan.specs.Refusal.{first_refusal}
 use Rattle.chance.specs.declared.mean.Weights.{Weights}
-use Rattle.chance.specs.declared.mean.Rounding.{Rounding}
-use Rattle.chance.specs.declared.mean.Rounding.TheVariants.{Down, Up}
-use Rattle.chance.specs.Bounds.{Bounds, Valuation, bound, sum_over, weight_product}
+use Rattle.chance.specs.Bounds.{Bounds, Rounding, down, up, Valuation, bound, sum_over, weight_product}
 use Rattle.chance.specs.Chance.{constant}
 use Rattle.chance.specs.Reply.{Chart, refusals, floats, ExactFloats}
 
@@ -55,10 +53,10 @@ abbrev pub units_bound : Rounding → List Stage → Weights → ℕ
 units_bound r p w = bound r (units_value p (constant w)) (total p) no_units
 
 unfoldable pub units_low : List Stage → Weights → ℕ
-units_low = units_bound Down
+units_low = units_bound down
 
 unfoldable pub units_high : List Stage → Weights → ℕ
-units_high = units_bound Up
+units_high = units_bound up
 
 abbrev pub units_bounds : List Stage → Weights → Bounds
 units_bounds p w = record { low = units_low p w; high = units_high p w }

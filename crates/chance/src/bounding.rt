@@ -8,7 +8,7 @@ ghost use Rattle.chance.specs.Reply.{fitted_words, fitted_answer, weighted_answe
 
 use crate::answers::{Bounds, Interval};
 use crate::backward::bound;
-use crate::mean::{Rounding, Weights};
+use crate::mean::Weights;
 use crate::setting::{Kind, Setting, Worth};
 use plan::Refusal;
 
@@ -33,9 +33,9 @@ fn bounds(plan: &[u32], scratch: &mut [u64], s: Setting) -> Bounds
 {
     let half = s.r1 * s.r2;
     let mut rounded = s;
-    rounded.rounding = Rounding::Down;
+    rounded.up = false;
     let low = bound(plan, scratch, rounded);
-    rounded.rounding = Rounding::Up;
+    rounded.up = true;
     let high = bound(plan, &mut scratch[half..], rounded);
     Interval { low, high }
 }
@@ -63,7 +63,7 @@ pub fn fitted(
         worth,
         weights,
         kind,
-        rounding: Rounding::Down,
+        up: false,
     };
     Ok(bounds(plan, scratch, s))
 }

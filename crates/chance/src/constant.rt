@@ -6,6 +6,7 @@ ghost use Rattle.chance.specs.Bounds.{weight_sum};
 ghost use Rattle.chance.specs.Constant.{constant_sum};
 
 use crate::division::Reciprocal;
+use crate::mean::rounded_by;
 use crate::outcomes::Outcomes;
 use crate::setting::{CERTAIN, Setting};
 
@@ -35,7 +36,7 @@ impl Constant {
         let w = setting.weights;
         let total = w.sum();
         let divisor = Reciprocal::of(total);
-        let added = w.good * CERTAIN + total * setting.worth.cost + setting.rounding.raised(total);
+        let added = w.good * CERTAIN + total * setting.worth.cost + rounded_by(setting.up, total);
         Constant {
             setting,
             marginal: w.marginal * divisor.scale,

@@ -50,7 +50,7 @@ impl Means for Drawn {
 
     fn value(self, y: usize, g: usize, b: usize, v: Outcomes) -> u64 {
         let s = self.setting;
-        s.worth.cost + s.weights_at(y, g, b).mean(self.divisor, s.rounding, v)
+        s.worth.cost + s.weights_at(y, g, b).mean(self.divisor, s.up, v)
     }
 }
 

@@ -3,7 +3,7 @@ ghost use Rattle.std.specs.Prelude.{◌≡◌, ◌+◌, ◌*◌, ◌^◌, ◌≤
 ghost use Rattle.chance.specs.Bounds.{Proportions};
 ghost use Rattle.chance.specs.Chance.{scale};
 
-use crate::mean::{Rounding, Weights};
+use crate::mean::Weights;
 
 // The chance 1, in units of 2^-40.
 pub const CERTAIN: u64 = 1 << 40;
@@ -48,7 +48,7 @@ pub enum Kind {
     Left,
 }
 
-// The last rejection numbers, what is expected, and the rounding.
+// The last rejection numbers, what is expected, and whether it is rounded up: a bool, as an enum made a lot's states slower.
 #[derive(Clone, Copy)]
 pub struct Setting {
     pub r1: usize,
@@ -56,7 +56,7 @@ pub struct Setting {
     pub worth: Worth,
     pub weights: Weights,
     pub kind: Kind,
-    pub rounding: Rounding,
+    pub up: bool,
     ghost proportions: { Proportions weights },
 }
 
