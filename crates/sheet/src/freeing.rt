@@ -42,12 +42,10 @@ pub fn free_inspections(sheet: &mut [u32], lot: u32, count: u32, newest: u32)
     ensures still_freeing { Freeing sheet.new 1 }
     ensures sheet_after { sheet.new ≡ free_inspections sheet.old (chain sheet.old lot count newest) }
 {
-    let mut left = count;
     let mut at = newest;
-    while 0 < left {
+    for _ in 0..count {
         let older = field_of(sheet, at, NEXT);
         free_record(sheet, at);
         at = older;
-        left = left - 1;
     }
 }

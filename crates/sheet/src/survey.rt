@@ -1,19 +1,20 @@
 // One walk over a sheet: is it intact, where is the lot of a number, and what does each office hold?
-ghost use Rattle.std.specs.Prelude.{◌≡◌, ◌+◌, ◌≤◌, length, replicate, eqb, cond};
+ghost use Rattle.std.specs.Prelude.{◌≡◌, ◌+◌, ◌≤◌, replicate, eqb, cond};
 ghost use Rattle.std.proofs.Math.Option.{some};
 ghost use Rattle.plan.specs.Plan.{stages};
 ghost use Rattle.plan.specs.Counts.{units};
-ghost use Rattle.sheetmodel.specs.Layout.{least_size, greatest_size, next_unused, first_lot, word, records, offices};
+ghost use Rattle.sheetmodel.specs.Layout.{next_unused, first_lot, word, records, offices};
 ghost use Rattle.sheetmodel.specs.Read.{then, read_from, read_lots};
 ghost use Rattle.sheet.specs.Survey.{record_at, is_lot, with_lot_found, nothing_found, lots_survey, survey_of};
 ghost use Rattle.sheet.specs.Sharing.{Counted};
 
 use crate::chain::Chain;
-use crate::header::{header_ok, plan_of};
+use crate::header::Header;
 use crate::layout::{FIRST_LOT, NEXT_UNUSED};
 use crate::offices::count_lot;
 use crate::record::{Record, record_at, record_count};
 use crate::records::Records;
+use crate::size::Sheet;
 
 // What is found for a lot's number: its record and its chain, 0 and no units where it is not on the
 // sheet; the record before it, whose next lot it is or would be; and the records that all lots and
@@ -107,28 +108,31 @@ impl Records<'_> {
     }
 }
 
-// The survey of a sheet for the lot number that is sought. `first` is the first record after the header.
-pub fn survey(sheet: &[u32], first: u32, sought: u32, held: &mut [u32; 16]) -> Option<Found>
-    requires { (least_size ≤ length sheet.now) × (length sheet.now ≤ greatest_size) × (held.old ≡ replicate offices 0) }
-    ensures value { result ≡ survey_of sought (read_from first sheet.now) }
-    ensures counted { Counted result (then (read_from first sheet.now) (λ s. some s.lots)) held.new }
-{
-    if !header_ok(sheet, first) {
-        return None;
-    }
-    let plan = plan_of(sheet);
-    let most = plan::sample_size(plan);
-    let records = Records {
-        sheet,
-        first,
-        plan,
-        most,
-    };
-    let found = records.lots(sought, held)?;
-    let free = records.free_chain()?;
-    if records.count_ok(found.used, free) {
-        Some(found)
-    } else {
-        None
+impl Sheet<'_> {
+    // The survey for the lot number that is sought. `first` is the first record after the header.
+    pub fn survey(self, first: u32, sought: u32, held: &mut [u32; 16]) -> Option<Found>
+        requires { held.old ≡ replicate offices 0 }
+        ensures value { result ≡ survey_of sought (read_from first self.entry.words.now) }
+        ensures counted { Counted result (then (read_from first self.entry.words.now) (λ s. some s.lots)) held.new }
+    {
+        if !self.header_ok(first) {
+            return None;
+        }
+        let sheet = self.words;
+        let plan = Header { words: sheet }.plan();
+        let most = plan::sample_size(plan);
+        let records = Records {
+            sheet,
+            first,
+            plan,
+            most,
+        };
+        let found = records.lots(sought, held)?;
+        let free = records.free_chain()?;
+        if records.count_ok(found.used, free) {
+            Some(found)
+        } else {
+            None
+        }
     }
 }

@@ -1,6 +1,5 @@
 -- `sheet::locate_and_count` meets its contract: the size, the shares, then the survey. Assumes nothing.
 use mathlib.Core.Path.{sym, ◌∙◌}
-use Rattle.sheet.proofs.Sizes.{long_enough, short_enough}
 use Rattle.sheet.proofs.LocatedFacts.{wrong_size, too_many_shares, by_survey, counted_by_survey}
 use Rattle.sheet.proofs.locating.locate_and_count.Goals as goal
 
@@ -12,12 +11,6 @@ returns-then-not-size_ok c =
       counted_on = tt;
     }
 
-pub shares_fit-requires : goal.shares_fit-requires
-shares_fit-requires c =
-    let size_is = sym c.size_ok.ensures ∙ c.if-not-size_ok.false in
-    let w = c.args.sheet.now in
-    (long_enough w size_is, short_enough w size_is)
-
 pub returns-then-not-shares_fit : goal.returns-then-not-shares_fit
 returns-then-not-shares_fit c =
     let size_is = sym c.size_ok.ensures ∙ c.if-not-size_ok.false in
@@ -26,12 +19,6 @@ returns-then-not-shares_fit c =
       value = sym (too_many_shares a.lot a.sheet.now size_is (sym c.shares_fit.ensures ∙ c.if-not-shares_fit.true));
       counted_on = tt;
     }
-
-pub survey-requires : goal.survey-requires
-survey-requires c =
-    let size_is = sym c.size_ok.ensures ∙ c.if-not-size_ok.false in
-    let w = c.args.sheet.now in
-    (long_enough w size_is, short_enough w size_is, c.requires)
 
 pub returns-clause-value : goal.returns-clause-value
 returns-clause-value c =

@@ -11,7 +11,7 @@ use Rattle.sheetmodel.specs.Read.{depth, read_lots, read_free, read_from, header
 use Rattle.sheet.specs.Survey.{Sized, nothing_found, lots_survey, free_of, survey_of}
 use Rattle.sheet.proofs.HeaderSteps.{few_stages}
 use Rattle.sheet.proofs.SurveySteps.{by_walks, by_code, no_header, counted_whole}
-use Rattle.sheet.proofs.survey.survey.Goals as goal
+use Rattle.sheet.proofs.size.Sheet.survey.Goals as goal
 
 -- the plan is admitted, and no record in use lies beyond the words
 record Header (w : List ℕ) : Type 0 where
@@ -34,48 +34,45 @@ by_both first w sought ok p e v l k f =
 
 -- ---- the answers
 
-pub returns-then-not-header_ok : goal.returns-then-not-header_ok
-returns-then-not-header_ok c = record {
-  value = sym (no_header c.args.first c.args.sheet.now c.args.sought (sym c.header_ok.ensures ∙ c.if-not-header_ok.true));
-  counted = tt;
-}
+pub returns-then-not-header_ok-clause-value : goal.returns-then-not-header_ok-clause-value
+returns-then-not-header_ok-clause-value c = sym (no_header c.args.first c.args.self.words.now c.args.sought (sym c.header_ok.ensures ∙ c.if-not-header_ok.true))
 
-pub plan_of-plan-requires : goal.plan_of-plan-requires
-plan_of-plan-requires c =
-    let h = header c.args.first c.args.sheet.now (sym c.header_ok.ensures ∙ c.if-not-header_ok.false) in
-    (c.requires.0, few_stages c.args.sheet.now c.requires.0 h.plan)
+pub invariant_of-plan : goal.invariant_of-plan
+invariant_of-plan c =
+    let h = header c.args.first c.args.self.words.now (sym c.header_ok.ensures ∙ c.if-not-header_ok.false) in
+    record { long = c.args.self.long; few = few_stages c.args.self.words.now c.args.self.long h.plan }
 
 pub sample_size-most-requires : goal.sample_size-most-requires
 sample_size-most-requires c =
-    let h = header c.args.first c.args.sheet.now (sym c.header_ok.ensures ∙ c.if-not-header_ok.false) in
-    rw c.plan_of-plan.ensures (shape (plan_words c.args.sheet.now) h.plan).thousand_units
+    let h = header c.args.first c.args.self.words.now (sym c.header_ok.ensures ∙ c.if-not-header_ok.false) in
+    rw c.plan-plan.ensures (shape (plan_words c.args.self.words.now) h.plan).thousand_units
 
 pub returns-in_err-found-clause-value : goal.returns-in_err-found-clause-value
 returns-in_err-found-clause-value c =
     rw c.from_residual.ensures
-    (by_both c.args.first c.args.sheet.now c.args.sought (sym c.header_ok.ensures ∙ c.if-not-header_ok.false) _ c.plan_of-plan.ensures None c.in_err-found.ensures.value _ refl)
+    (by_both c.args.first c.args.self.words.now c.args.sought (sym c.header_ok.ensures ∙ c.if-not-header_ok.false) _ c.plan-plan.ensures None c.in_err-found.ensures.value _ refl)
 
 pub returns-in_err-free-clause-value : goal.returns-in_err-free-clause-value
 returns-in_err-free-clause-value c =
     rw c.from_residual-in_err-free.ensures
-    (by_both c.args.first c.args.sheet.now c.args.sought (sym c.header_ok.ensures ∙ c.if-not-header_ok.false) _ c.plan_of-plan.ensures
+    (by_both c.args.first c.args.self.words.now c.args.sought (sym c.header_ok.ensures ∙ c.if-not-header_ok.false) _ c.plan-plan.ensures
     (Some c.in_ok-found.found) c.in_ok-found.ensures.value None c.in_err-free.ensures)
 
 pub returns-then-count_ok-clause-value : goal.returns-then-count_ok-clause-value
 returns-then-count_ok-clause-value c =
-    let both = by_both c.args.first c.args.sheet.now c.args.sought (sym c.header_ok.ensures ∙ c.if-not-header_ok.false) _ c.plan_of-plan.ensures
+    let both = by_both c.args.first c.args.self.words.now c.args.sought (sym c.header_ok.ensures ∙ c.if-not-header_ok.false) _ c.plan-plan.ensures
     (Some c.in_ok-found.found) c.in_ok-found.ensures.value (Some c.in_ok-free.free) c.in_ok-free.ensures in
     rw (sym c.count_ok.ensures ∙ c.if-count_ok.true) at both
 
 pub returns-then-count_ok-clause-counted : goal.returns-then-count_ok-clause-counted
 returns-then-count_ok-clause-counted c =
-    let both = by_both c.args.first c.args.sheet.now c.args.sought (sym c.header_ok.ensures ∙ c.if-not-header_ok.false) _ c.plan_of-plan.ensures
+    let both = by_both c.args.first c.args.self.words.now c.args.sought (sym c.header_ok.ensures ∙ c.if-not-header_ok.false) _ c.plan-plan.ensures
     (Some c.in_ok-found.found) c.in_ok-found.ensures.value (Some c.in_ok-free.free) c.in_ok-free.ensures in
     let is = rw (sym c.count_ok.ensures ∙ c.if-count_ok.true) at both in
-    counted_whole c.args.first c.args.sheet.now c.args.sought c.in_ok-found.found _ (sym is) c.in_ok-found.ensures.counted
+    counted_whole c.args.first c.args.self.words.now c.args.sought c.in_ok-found.found _ (sym is) c.in_ok-found.ensures.counted
 
 pub returns-else-count_ok-clause-value : goal.returns-else-count_ok-clause-value
 returns-else-count_ok-clause-value c =
-    let both = by_both c.args.first c.args.sheet.now c.args.sought (sym c.header_ok.ensures ∙ c.if-not-header_ok.false) _ c.plan_of-plan.ensures
+    let both = by_both c.args.first c.args.self.words.now c.args.sought (sym c.header_ok.ensures ∙ c.if-not-header_ok.false) _ c.plan-plan.ensures
     (Some c.in_ok-found.found) c.in_ok-found.ensures.value (Some c.in_ok-free.free) c.in_ok-free.ensures in
     rw (sym c.count_ok.ensures ∙ c.if-count_ok.false) at both
