@@ -3,19 +3,17 @@
 #![tactic(auto)]
 
 use cases::print;
+use chance::Interval;
 use plan::Refusal;
 use sheet::Estimate;
 use std::io;
 
 fn judged(rt: &impl Print, plan: &[u32], list: &[u8]) -> io::Result<()> {
-    match judge::judge(plan, list) {
-        Ok(judgement) => println!(rt; "{judgement}"),
-        Err(refusal) => print::refusal(rt, refusal),
-    }
+    print::reply(rt, judge::judge(plan, list))
 }
 
-// Lot 7 with classes 1, 2, 2.
-fn lot_7(plan: &[u32]) -> Result<Estimate, Refusal> {
+// The estimate of lot 7 with classes 1, 2, 2.
+fn lot_estimate(plan: &[u32]) -> Result<Estimate, Refusal> {
     let mut words = [0; 76];
     sheet::fresh(&mut words, plan, &[0; 16])?;
     sheet::open(&mut words, 7)?;
@@ -26,7 +24,7 @@ fn lot_7(plan: &[u32]) -> Result<Estimate, Refusal> {
 }
 
 fn estimate(rt: &impl Print, plan: &[u32]) -> io::Result<()> {
-    match lot_7(plan) {
+    match lot_estimate(plan) {
         Ok(
             Estimate {
                 good,
@@ -41,7 +39,7 @@ fn estimate(rt: &impl Print, plan: &[u32]) -> io::Result<()> {
 
 fn bounds(rt: &impl Print, plan: &[u32], [w0, w1, w2]: [u32; 3]) -> io::Result<()> {
     match chance::chance(plan, w0, w1, w2, &mut [u64::MAX; 2]) {
-        Ok(bounds) => println!(rt; "{} {}", bounds.low, bounds.high),
+        Ok(Interval { low, high }) => println!(rt; "{low} {high}"),
         Err(refusal) => print::refusal(rt, refusal),
     }
 }

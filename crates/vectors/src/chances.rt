@@ -5,18 +5,18 @@ ghost use Rattle.chance.specs.Bounds.{Bounds};
 ghost use Rattle.chance.specs.Reply.{ExactFloats};
 
 use cases::print;
-use chance::{Bounds, Chart};
+use chance::{Bounds, Chart, Interval};
 use plan::Refusal;
 use std::io;
 
 // The floats of a chart, as their bit patterns.
-pub fn patterns(answer: Result<Chart, Refusal>) -> Result<Bounds, Refusal>
-    requires { (k : ℕ) × (b : Bounds) × ExactFloats k b answer }
+pub fn patterns(chart: Result<Chart, Refusal>) -> Result<Bounds, Refusal>
+    requires { (k : ℕ) × (b : Bounds) × ExactFloats k b chart }
 {
-    let chart = answer?;
-    Ok(Bounds {
-        low: chart.low.to_bits(),
-        high: chart.high.to_bits(),
+    let Interval { low, high } = chart?;
+    Ok(Interval {
+        low: low.to_bits(),
+        high: high.to_bits(),
     })
 }
 
@@ -40,7 +40,7 @@ pub fn answer<F: Fn(&[u32], [u32; 3], &mut [u64]) -> Result<Bounds, Refusal>>(
         return print::bad_line(rt);
     };
     match call(plan, [*w0, *w1, *w2], scratch) {
-        Ok(bounds) => println!(rt; "{} {}", bounds.low, bounds.high),
+        Ok(Interval { low, high }) => println!(rt; "{low} {high}"),
         Err(refusal) => print::refusal(rt, refusal),
     }
 }

@@ -11,8 +11,5 @@ pub fn judged(rt: &impl Print, text: &[u8]) -> io::Result<()> {
     let Some(plan) = cases::words(&rest[list.len()..]) else {
         return print::bad_line(rt);
     };
-    match judge::judge(plan.as_slice(), list.as_slice()) {
-        Ok(judgement) => println!(rt; "{judgement}"),
-        Err(refusal) => print::refusal(rt, refusal),
-    }
+    print::reply(rt, judge::judge(plan.as_slice(), list.as_slice()))
 }

@@ -81,14 +81,6 @@ slice_bounds-count_run-start c =
     (c.min-end.ensures ∙ ap (λ (n : ℕ). min n (length xs)) c.end_from.ensures) in
     omega (arith, t.begins, t.inside)
 
-pub slice_bounds-count_run-end : goal.slice_bounds-count_run-end
-slice_bounds-count_run-end c =
-    let l = c.loop-i in
-    let xs = c.args.self.now.list.now in
-    let t = turn c.args.self.now.plan.now c.args.self.now.admitted xs l.i l.invariant.0 l.invariant.2 c.min-end.result c.loop-i-test.true
-    (c.min-end.ensures ∙ ap (λ (n : ℕ). min n (length xs)) c.end_from.ensures) in
-    t.inside
-
 pub count_run-after-requires : goal.count_run-after-requires
 count_run-after-requires c =
     let l = c.loop-i in
@@ -116,9 +108,6 @@ before_stop-requires c =
     let counted = run_counts xs l.i c.min-end.result (omega (arith, t.begins)) l.c c.count_run-after.result l.invariant.1 c.count_run-after.ensures in
     let stopped = asked c.args.self.now.plan.now xs c.min-end.result _ _ _ counted c.answer.ensures c.goes_on.ensures ∙ c.if-not-goes_on.true in
     stage_between c.args.self.now.plan.now (Staged Full) xs c.args.self.now.admitted l.i l.invariant.2 c.min-end.result t.same_stage t.begins t.inside t.in_plan l.c l.invariant.1 stopped
-
-pub returns-then-not-goes_on : goal.returns-then-not-goes_on
-returns-then-not-goes_on c = c.before_stop.ensures
 
 pub loop-i-preserved : goal.loop-i-preserved
 loop-i-preserved c =

@@ -9,17 +9,6 @@ use Rattle.judge.proofs.Runs.{run, run_length}
 use Rattle.judge.proofs.Halves.{is_on, Halved, halved, stop_found}
 use Rattle.judge.proofs.case.Case.before_stop.Goals as goal
 
-pub loop-high-init : goal.loop-high-init
-loop-high-init c = (c.units-low.ensures, c.requires)
-
-pub count_run-d-requires : goal.count_run-d-requires
-count_run-d-requires c =
-    let l = c.loop-high in
-    let t = l.invariant.1 in
-    let xs = c.args.self.now.list.now in
-    let h = c.half in
-    omega (arith, run_length xs l.low (l.low + h.result) (omega arith) (omega (arith, t.within)), t.thousand)
-
 pub answer-requires : goal.answer-requires
 answer-requires c =
     let middle : Halved c.args.self.now.plan.now c.args.way c.args.self.now.list.now c.loop-high.c c.loop-high.high (c.loop-high.low + c.half.result) c.count_run-d.result = let s = c.args in
@@ -55,24 +44,3 @@ pub returns : goal.returns
 returns c =
     let l = c.loop-high in
     stop_found c.args.self.now.plan.now c.args.way c.args.self.now.list.now c.args.self.now.admitted l.c l.high l.invariant.1 (omega (arith, l.invariant.0))
-
-pub units-low-requires : goal.units-low-requires
-units-low-requires c = let t = c.requires in omega (arith, t.apart, t.thousand)
-
-pub overflow_sub-high : goal.overflow_sub-high
-overflow_sub-high c = omega (arith, c.loop-high.invariant.1.apart)
-
-pub overflow_sub-high-in-loop-high : goal.overflow_sub-high-in-loop-high
-overflow_sub-high-in-loop-high c = omega (arith, c.loop-high.invariant.1.apart)
-
-pub half-requires : goal.half-requires
-half-requires c = omega (arith, c.loop-high.invariant.1.thousand)
-
-pub overflow_add-middle : goal.overflow_add-middle
-overflow_add-middle c = omega (arith, c.loop-high.invariant.1.thousand)
-
-pub slice_bounds-count_run-start : goal.slice_bounds-count_run-start
-slice_bounds-count_run-start c = omega (arith, c.loop-high.invariant.1.within)
-
-pub slice_bounds-count_run-end : goal.slice_bounds-count_run-end
-slice_bounds-count_run-end c = omega (arith, c.loop-high.invariant.1.within)

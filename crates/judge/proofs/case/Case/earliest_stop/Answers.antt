@@ -29,17 +29,5 @@ before_stop-sooner-requires c =
     (earliest_between c.args.self.now.plan.now c.args.self.now.admitted c.args.self.now.list.now c.args.full c.requires.0 c.args.before c.requires.1 _ c.none.ensures
     (omega (arith, limit_is, c.if-accept_limit-before.false)))
 
-pub units-end-requires : goal.units-end-requires
-units-end-requires c = c.requires.1.thousand
-
-pub overflow_add-nongood : goal.overflow_add-nongood
-overflow_add-nongood c = omega (arith, c.requires.1.thousand)
-
 pub accept_limit-requires : goal.accept_limit-requires
 accept_limit-requires c = omega (arith, (shape c.args.self.now.plan.now c.args.self.now.admitted).thousand_units, c.requires.1.thousand)
-
-pub stop_after-requires : goal.stop_after-requires
-stop_after-requires c = c.before_stop-sooner.ensures
-
-pub returns : goal.returns
-returns c = c.stop_after.ensures

@@ -28,9 +28,3 @@ returns c =
     let next : record { answer = answer c.args.way (stages c.args.self.now.plan.now) c.with-c.result; counts = c.with-c.result } ≡ stop_of c.args.way c.args.self.now.plan.now c.args.self.now.list.now = stop_next c.args.self.now.plan.now c.args.way c.args.self.now.list.now c.args.self.now.admitted c.args.before c.requires (omega (arith, c.units-i.ensures, c.if-self-i.false))
     c.with-c.result (rw (sym c.units-i.ensures) c.with-c.ensures) in
     rw c.answer.ensures next
-
-pub units-i-requires : goal.units-i-requires
-units-i-requires c = c.requires.thousand
-
-pub with-c-requires : goal.with-c-requires
-with-c-requires c = omega (arith, c.requires.thousand)
