@@ -1,83 +1,61 @@
-// For the programs that answer test cases: the lines of standard input, the fields and numbers of a line, and
-// the numbers of an answer.
+// For the programs that answer test cases: the lines of standard input, the numbers of a line, and the numbers of an
+// answer. Nothing here uses the heap: the programs reach no contract of C but those of reading and writing.
 #![tactic(auto)]
 
 mod lines;
 pub mod print;
 
 ghost use Rattle.std.specs.Prelude.{◌≤◌, length};
+ghost use Rattle.arrayvec.specs.ArrayVec.{array_vec_len};
 
-pub use lines::{Input, next_line, start};
+use arrayvec::ArrayVec;
+pub use lines::{Line, Lines};
 
-// What is read at a place of a line: a number and the place after it, or no number that fits u32.
-#[derive(Clone, Copy)]
-pub enum Field {
-    Number(u32, usize),
-    Bad,
+// The numbers of a line.
+pub type Words = ArrayVec<u32, 128>;
+
+// The value of a decimal digit.
+fn digit(byte: u8) -> Option<u8> {
+    match byte {
+        b'0'..=b'9' => Some(byte - b'0'),
+        _ => None,
+    }
 }
 
-// The value of a decimal digit, and 10 for any other byte.
-fn digit(byte: u8) -> u64 {
-    if byte < b'0' || byte > b'9' {
-        return 10;
+// The decimal number that a word is. It has at least one digit.
+pub fn number(word: &[u8]) -> Option<u32> {
+    let mut value: Option<u32> = None;
+    for byte in word {
+        let tens = value.unwrap_or(0).checked_mul(10)?;
+        value = Some(tens.checked_add(u32::from(digit(*byte)?))?);
     }
-    (byte - b'0') as u64
+    value
 }
 
-// The decimal number that begins at a place. It has at least one digit.
-pub fn number(line: &[u8], at: usize) -> Field {
-    let mut value: u64 = 0;
-    let mut i = at;
-    while i < line.len() {
-        let d = digit(line[i]);
-        if d > 9 {
-            break;
-        }
-        value = value * 10 + d;
-        if value > 4294967295 {
-            return Field::Bad;
-        }
-        i += 1;
+// The numbers of a line's rest, each after one space; none if a word is no number, or if there are too many.
+pub fn words(text: &[u8]) -> Option<Words> {
+    let mut list = ArrayVec::new();
+    if text.is_empty() {
+        return Some(list);
     }
-    if i == at {
-        return Field::Bad;
+    for word in text.strip_prefix(b" ")?.split(|byte| *byte == b' ') {
+        list.try_push(number(word)?).ok()?;
     }
-    Field::Number(value as u32, i)
+    Some(list)
 }
 
-// Puts the words from a place to the line's end, each after one space, into a list. The result is
-// their number, or usize::MAX, which exceeds any list, if the line is bad or has too many words.
-pub fn words(line: &[u8], at: usize, list: &mut [u32]) -> usize {
-    let mut n = 0;
-    let mut i = at;
-    while i < line.len() {
-        if n >= list.len() || line[i] != b' ' {
-            return usize::MAX;
-        }
-        let Field::Number(word, next) = number(line, i + 1) else {
-            return usize::MAX;
-        };
-        list[n] = word;
-        n += 1;
-        i = next;
-    }
-    n
-}
-
-// Puts the classes that begin at a place, a digit each, into a list. The result is their number.
-pub fn classes(line: &[u8], at: usize, list: &mut [u8]) -> usize
-    ensures { result ≤ length list.old }
+// The classes that a text begins with, a digit each.
+pub fn classes(text: &[u8]) -> ArrayVec<u8, 4096>
+    ensures { array_vec_len result ≤ length text.now }
 {
-    let mut n = 0;
-    let mut i = at;
-    while i < line.len() && n < list.len() {
-        let d = digit(line[i]);
-        if d > 9 {
+    let mut list = ArrayVec::new();
+    for byte in text {
+        let Some(class) = digit(*byte) else {
+            break;
+        };
+        if list.try_push(class).is_err() {
             break;
         }
-        list[n] = d as u8;
-        n += 1;
-        i += 1;
     }
-    n
+    list
 }

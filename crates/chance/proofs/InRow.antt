@@ -12,55 +12,44 @@ use borrow.Author.Tests.{ltb-true, ltb-false}
 use native.Mathlib.Nat.{eq-or-lt_of_le, mul-le-mul_right, suc-mul}
 use native.Mathlib.Decide.{dec_lt}
 use native.Mathlib.Omega.{arith}
-use Rattle.chance.specs.declared.mean.Weights.{Weights}
 use Rattle.chance.specs.declared.setting.Setting.{Setting}
 use Rattle.chance.specs.declared.constant.Constant.{Constant}
-use Rattle.chance.specs.declared.division.Reciprocal.{Reciprocal}
 use Rattle.chance.specs.declared.row.Undecided.{Undecided}
 use Rattle.chance.specs.Chance.{scale}
-use Rattle.chance.specs.Layer.{setting_weights, at, word, Proportions, Values, Valued, Between, Weighs, Outside, Filled, further, Further, FurtherTo, Decided, SteppedRow}
-use Rattle.chance.specs.Constant.{constant_value, ConstantFor, Legible}
-use Rattle.chance.proofs.States.{weights_few, constant_weights, inside, next_row, word_is, word_at_most, word_same, further_is, further_same}
+use Rattle.chance.specs.Layer.{word, state_value, Values, Valued, Between, Filled, further, Further, FurtherTo, Decided, SteppedRow}
+use Rattle.chance.specs.Constant.{constant_value, Legible}
+use Rattle.chance.proofs.States.{constant_is, inside, next_row, word_is, word_at_most, word_same, further_is, further_same}
 
 -- a word that was set, and the others
 module _ (layer : List ℕ) (k v : ℕ) (fits : k < length layer) where
   set_at : (i : ℕ) → i ≡ k → get_or (set layer k v) i 0 ≡ v
   set_at i e = subst (λ (j : ℕ). get_or (set layer k v) j 0 ≡ v) (sym e) (get_or-set_same layer k v 0 fits)
 
--- ---- words from `from` on, filled up to the place i
+-- ---- words from `from` on, filled up to `to`
 
-pub record FillTo (from to value : ℕ) (before layer : List ℕ) (i : ℕ) : Type 0 where
-  pub same : length layer ≡ length before
-  pub at_least : from ≤ i
-  pub at_most : i ≤ max from to
-  pub done : (k : ℕ) → from ≤ k → k < i → get_or layer k 0 ≡ value
-  pub others : Outside from i before layer
+module _ {from value : ℕ} {before : List ℕ} where
+  pub fill_none : Filled from from value before before
+  fill_none = record { done = λ k h m. absurd (omega arith); others = λ k h. refl }
 
-module _ {from to value : ℕ} {before : List ℕ} where
-  pub fill_none : FillTo from to value before before from
-  fill_none = record { same = refl; at_least = omega arith; at_most = omega arith; done = λ k h l. absurd (omega arith); others = λ k h. refl }
-
-  pub fill_more : {layer : List ℕ} {i : ℕ} → FillTo from to value before layer i → i < to → i < length layer → FillTo from to value before (set layer i value) (i + 1)
+  pub fill_more : {layer : List ℕ} {i : ℕ} → Filled from i value before layer → from ≤ i → i < length layer → Filled from (i + 1) value before (set layer i value)
   fill_more {layer} {i} p l fits =
       record {
-        same = length-set layer i value ∙ p.same;
-        at_least = omega (arith, p.at_least);
-        at_most = omega arith;
         done = λ k h m. ⊎_elim {C = get_or (set layer i value) k 0 ≡ value} (set_at layer i value fits k)
             (λ q. get_or-set_other layer i k value 0 (omega arith) ∙ p.done k h q) (eq-or-lt_of_le {n = k} {m = i} (omega arith));
-        others = λ k h. get_or-set_other layer i k value 0 (⊎_elim (λ a. omega (arith, p.at_least)) (λ a. omega arith) h)
+        others = λ k h. get_or-set_other layer i k value 0 (⊎_elim (λ a. omega arith) (λ a. omega arith) h)
             ∙ p.others k (⊎_elim {C = (k < from) ⊎ (i ≤ k)} inl (λ a. inr (omega arith)) h);
       }
 
-  pub fill_all : {layer : List ℕ} {i : ℕ} → FillTo from to value before layer i → to ≤ i → Filled from to value before layer
-  fill_all {layer} {i} p l =
+  -- the words up to i, which is `to` where there are such
+  pub fill_all : {to : ℕ} {layer : List ℕ} {i : ℕ} → Filled from i value before layer → i ≡ max from to → Filled from to value before layer
+  fill_all {to} {layer} {i} p e =
       record {
         done = λ k h m. p.done k h (omega arith);
-        others = λ k h. p.others k (elim (dec_lt k from) [ yes q ↦ inl q | no q ↦ inr (⊎_elim {C = i ≤ k} (λ a. absurd (omega arith)) (λ a. omega (arith, p.at_most)) h) ]);
+        others = λ k h. p.others k (elim (dec_lt k from) [ yes q ↦ inl q | no q ↦ inr (⊎_elim {C = i ≤ k} (λ a. absurd (omega arith)) (λ a. omega arith) h) ]);
       }
 
-  pub filled_values : {layer : List ℕ} (n m : ℕ) → Filled from to value before layer → value ≤ m → Values n m before → Values n m layer
-  filled_values {layer} n m p l h i k = go (dec_lt i from) (dec_lt i to)
+  pub filled_values : {to : ℕ} {layer : List ℕ} (n m : ℕ) → Filled from to value before layer → value ≤ m → Values n m before → Values n m layer
+  filled_values {to} {layer} n m p l h i k = go (dec_lt i from) (dec_lt i to)
     where
       go : Dec (i < from) → Dec (i < to) → get_or layer i 0 ≤ m
       go (yes a) b = rw (p.others i (inl a)) (h i k)
@@ -114,9 +103,9 @@ further_more {s} {y} {g} {from} {to} {bad} {b} {before} {layer} p k value margin
     }
 
 -- what is read at the state before b is as it was before the row
-pub reading : {s : Setting} {d : Reciprocal} {y g from to bad b : ℕ} {before layer : List ℕ} → FurtherTo s y g from to before layer bad b → 0 < b
-    → Valued before s → Between s d y g to → Reading s g (b - 1) before layer bad
-reading {s} {d} {y} {g} {from} {to} {bad} {b} {before} {layer} p some h m =
+pub reading : {s : Setting} {y g from to bad b : ℕ} {before layer : List ℕ} → FurtherTo s y g from to before layer bad b → 0 < b
+    → Valued before s → Between s y g to → Reading s g (b - 1) before layer bad
+reading {s} {y} {g} {from} {to} {bad} {b} {before} {layer} p some h m =
     let one : b ≡ b - 1 + 1 = omega arith in
     let inner = inside s.r1 s.r2 g (b - 1) m.inside (omega (arith, p.at_most, m.upto)) in
     let next = next_row s.r2 g in
@@ -133,75 +122,62 @@ reading {s} {d} {y} {g} {from} {to} {bad} {b} {before} {layer} p some h m =
       bad_most = rw p.bad_is (most (g + 1) b);
     }
 
--- what the mean of this state asks, of its weights and of what stands after a marginal unit
-pub record Turn (s : Setting) (layer : List ℕ) (w : Weights) (g k marginal bad : ℕ) : Type 0 where
-  pub proportions : Proportions w
-  pub values : (get_or layer (g * s.r2 + k) 0 ≤ scale) × (marginal ≤ scale) × (bad ≤ scale)
+-- one state more, whose words are read by a setting that is the same
+module _ {s x : Setting} (alike : x ≡ s) {y g from to bad b : ℕ} {before layer : List ℕ} (p : FurtherTo s y g from to before layer bad b) (more : from < b)
+    (h : Valued before s) (m : Between s y g to) {marginal : ℕ} (f : marginal ≡ word x.r1 x.r2 layer (g + 1) (b - 1)) where
+  as_read : Reading s g (b - 1) before layer bad
+  as_read = reading p (omega arith) h m
 
-pub turn : {s : Setting} {d : Reciprocal} {y g from to bad b : ℕ} {before layer : List ℕ} → FurtherTo s y g from to before layer bad b → from < b
-    → Valued before s → Between s d y g to → Weighs s y g from to
-    → {w : Weights} → w ≡ setting_weights s (at y g (b - 1)) → {marginal : ℕ} → marginal ≡ word s.r1 s.r2 layer (g + 1) (b - 1)
-    → Turn s layer w g (b - 1) marginal bad
-turn {s} {d} {y} {g} {from} {to} {bad} {b} p more h m weighs e f =
-    let read = reading p (omega arith) h m in
-    record {
-      proportions = record {
-        some = rw e (weighs (b - 1) (omega arith) (omega (arith, p.at_most)) (omega (arith, p.at_most, m.upto)));
-        few = rw e (omega (arith, weights_few s (at y g (b - 1)), h.few));
-      };
-      values = (read.good_most, rw f read.marginal_most, read.bad_most);
-    }
+  marginal_is : marginal ≡ word s.r1 s.r2 layer (g + 1) (b - 1)
+  marginal_is = f ∙ ap (λ (z : Setting). word z.r1 z.r2 layer (g + 1) (b - 1)) alike
+
+  row : x.r2 ≡ s.r2
+  row = ap (λ (z : Setting). z.r2) alike
+
+  pub values_most : (get_or layer (g * x.r2 + (b - 1)) 0 ≤ scale) × (marginal ≤ scale) × (bad ≤ scale)
+  values_most = (rw row as_read.good_most, rw marginal_is as_read.marginal_most, as_read.bad_most)
+
+  pub value_more : {value : ℕ} → value ≡ state_value s y g (b - 1) (get_or layer (g * x.r2 + (b - 1)) 0) marginal bad
+      → FurtherTo s y g from to before (set layer (g * x.r2 + (b - 1)) value) marginal (b - 1)
+  value_more {value} e =
+      let word_on = marginal_is ∙ as_read.marginal in
+      let own : value ≡ state_value s y g (b - 1) (get_or layer (g * s.r2 + (b - 1)) 0) marginal bad
+      = e ∙ ap (λ (k : ℕ). state_value s y g (b - 1) (get_or layer (g * k + (b - 1)) 0) marginal bad) row in
+      subst (λ (k : ℕ). FurtherTo s y g from to before (set layer (g * k + (b - 1)) value) marginal (b - 1)) (sym row)
+      (further_more p (b - 1) value marginal (omega arith) (omega arith) as_read.place
+      (own ∙ further_is s before y g (b - 1) as_read.good word_on as_read.bad) word_on)
 
 -- ---- the same with constant weights, in a row before the last
 
-pub record Descent (s : Setting) (d : Reciprocal) (y g to : ℕ) (before : List ℕ) : Type 0 where
-  pub valued : Valued before s
-  pub between : Between s d y g to
-  pub next : g + 1 < s.r1
-  pub constant : s.left ≡ false
+module _ (t : Constant) {y g from to bad b : ℕ} {before layer : List ℕ} (valued : Valued before t.setting) (between : Between t.setting y g to) (further_on : g + 1 < t.setting.r1)
+    (p : FurtherTo t.setting y g from to before layer bad b) (k : ℕ) (one : b ≡ k + 1) where
+  read : Reading t.setting g k before layer bad
+  read = let same : b - 1 ≡ k = omega arith in subst (λ (n : ℕ). Reading t.setting g n before layer bad) same (reading p (omega arith) valued between)
 
-pub constant_between : {s : Setting} {t : Constant} {y g to : ℕ} → ConstantFor s t → g < s.r1 → g ≤ y → y ≤ 1000 → to ≤ min (g + 1) s.r2 → Between s t.divisor y g to
-constant_between k inside few thousand upto =
-    record { inside = inside; few = few; thousand = thousand; upto = upto; serves = record { exact = k.exact; of_sum = λ e. k.of_sum } }
+  in_row : k < t.setting.r2
+  in_row = omega (arith, p.at_most, between.upto)
 
-pub descent : {s : Setting} {t : Constant} {y g to : ℕ} {before : List ℕ} → Valued before s → Between s t.divisor y g to → ConstantFor s t → g + 1 < s.r1
-    → Descent s t.divisor y g to before
-descent h m k l = record { valued = h; between = m; next = l; constant = k.constant }
+  on : word t.setting.r1 t.setting.r2 layer (g + 1) k ≡ get_or layer (g * t.setting.r2 + t.setting.r2 + k) 0
+  on = word_is t.setting.r1 t.setting.r2 layer (g + 1) k further_on in_row ∙ ap (λ (n : ℕ). get_or layer (n + k) 0) (next_row t.setting.r2 g)
 
-module _ {s : Setting} {d : Reciprocal} {y g from to bad b : ℕ} {before layer : List ℕ} (f : Descent s d y g to before) (p : FurtherTo s y g from to before layer bad b)
-    (k : ℕ) (one : b ≡ k + 1) where
-  read : Reading s g k before layer bad
-  read = let same : b - 1 ≡ k = omega arith in subst (λ (n : ℕ). Reading s g n before layer bad) same (reading p (omega arith) f.valued f.between)
-
-  in_row : k < s.r2
-  in_row = omega (arith, p.at_most, f.between.upto)
-
-  on : word s.r1 s.r2 layer (g + 1) k ≡ get_or layer (g * s.r2 + s.r2 + k) 0
-  on = word_is s.r1 s.r2 layer (g + 1) k f.next in_row ∙ ap (λ (n : ℕ). get_or layer (n + k) 0) (next_row s.r2 g)
-
-  pub legible : Legible layer (g * s.r2 + k) (g * s.r2 + s.r2 + k) bad
+  pub legible : Legible layer (g * t.setting.r2 + k) (g * t.setting.r2 + t.setting.r2 + k) bad
   legible = record {
     place_in = read.place;
-    next_in = omega (arith, inside s.r1 s.r2 (g + 1) k f.next in_row, next_row s.r2 g, p.same, f.valued.room);
+    next_in = omega (arith, inside t.setting.r1 t.setting.r2 (g + 1) k further_on in_row, next_row t.setting.r2 g, p.same, valued.room);
     good_most = read.good_most;
     marginal_most = rw (sym on) read.marginal_most;
     bad_most = read.bad_most;
   }
 
   -- one state more
-  pub state_more : from ≤ k → {after : List ℕ} {marginal : ℕ} → marginal ≡ get_or layer (g * s.r2 + s.r2 + k) 0
-      → after ≡ set layer (g * s.r2 + k) (constant_value s (get_or layer (g * s.r2 + k) 0) (get_or layer (g * s.r2 + s.r2 + k) 0) bad)
-      → FurtherTo s y g from to before after marginal k
+  pub state_more : from ≤ k → {after : List ℕ} {marginal : ℕ} → marginal ≡ get_or layer (g * t.setting.r2 + t.setting.r2 + k) 0
+      → after ≡ set layer (g * t.setting.r2 + k) (constant_value t.setting (get_or layer (g * t.setting.r2 + k) 0) (get_or layer (g * t.setting.r2 + t.setting.r2 + k) 0) bad)
+      → FurtherTo t.setting y g from to before after marginal k
   state_more l {after} {marginal} e q =
       let word_on = sym on ∙ read.marginal in
-      let value = further_is s before y g k s.weights _ _ bad _ (constant_weights s (at y g k) f.constant) read.good word_on read.bad refl in
-      subst (λ (x : List ℕ). FurtherTo s y g from to before x marginal k) (sym q)
-      (further_more p k (constant_value s (get_or layer (g * s.r2 + k) 0) (get_or layer (g * s.r2 + s.r2 + k) 0) bad) marginal one l read.place value (e ∙ word_on))
-
--- where a loop begins with some states done, and has done more
-abbrev pub Onward : Setting → Reciprocal → ℕ → ℕ → ℕ → ℕ → List ℕ → ℕ → ℕ → List ℕ → ℕ → ℕ → Type 0
-Onward s d y g from to start bad₀ b₀ layer bad b =
-    (before : List ℕ) → Descent s d y g to before → FurtherTo s y g from to before start bad₀ b₀ → FurtherTo s y g from to before layer bad b
+      let value = constant_is t.setting y g k _ _ bad t.same ∙ further_is t.setting before y g k read.good word_on read.bad in
+      subst (λ (x : List ℕ). FurtherTo t.setting y g from to before x marginal k) (sym q)
+      (further_more p k (constant_value t.setting (get_or layer (g * t.setting.r2 + k) 0) (get_or layer (g * t.setting.r2 + t.setting.r2 + k) 0) bad) marginal one l read.place value (e ∙ word_on))
 
 -- the states that four do not go into, which come first, and those that are left then
 pub odd_some : (from b : ℕ) → from ≤ b → (b - from) % 4 ≢ 0 → from < b
@@ -230,7 +206,7 @@ row_room {layer} {s} {g} h l = omega (arith, h.room, mul-le-mul_right s.r2 l, su
 
 pub row_decided : {s : Setting} {g accept reject from to end : ℕ} {before layer after : List ℕ}
     → end ≡ min (g + 1) s.r2 → from ≡ min accept end → to ≡ min reject end
-    → Filled (g * s.r2 + to) (g * s.r2 + end) 0 before layer → Filled (g * s.r2) (g * s.r2 + from) s.accepted layer after
+    → Filled (g * s.r2 + to) (g * s.r2 + end) 0 before layer → Filled (g * s.r2) (g * s.r2 + from) s.worth.accepted layer after
     → Decided s g accept reject before after (record { from = from; to = to })
 row_decided {s} {g} {accept} {reject} {from} {to} {end} ends from_is to_is rejected accepted = record {
   from_is = from_is ∙ ap (min accept) ends;
@@ -244,10 +220,10 @@ row_decided {s} {g} {accept} {reject} {from} {to} {end} ends from_is to_is rejec
 
 module _ {s : Setting} {g accept reject : ℕ} {u : Undecided} {before layer : List ℕ} (decided : Decided s g accept reject before layer u) where
   pub decided_valued : Valued before s → length layer ≡ length before → Valued layer s
-  decided_valued h size = record { few = h.few; fits = h.fits; room = omega (arith, h.room); values = λ i l. value i l (dec_lt i (g * s.r2)) (dec_lt i (g * s.r2 + min (g + 1) s.r2)) }
+  decided_valued h size = record { room = omega (arith, h.room); values = λ i l. value i l (dec_lt i (g * s.r2)) (dec_lt i (g * s.r2 + min (g + 1) s.r2)) }
     where
       within : (b : ℕ) → b < min (g + 1) s.r2 → g * s.r2 + b < s.r1 * s.r2 → Dec (b < u.from) → Dec (b < u.to) → get_or layer (g * s.r2 + b) 0 ≤ scale
-      within b m l (yes p) q = rw (decided.accepted b p) (omega (arith, h.fits))
+      within b m l (yes p) q = rw (decided.accepted b p) (omega (arith, s.worth.fits))
       within b m l (no p) (no q) = rw (decided.rejected b (omega arith) (omega arith) m) (omega arith)
       within b m l (no p) (yes q) = rw (decided.undecided b (omega arith) q) (h.values (g * s.r2 + b) l)
 
@@ -268,7 +244,7 @@ module _ {s : Setting} {g accept reject : ℕ} {u : Undecided} {before layer : L
   }
     where
       value : (b : ℕ) → b < min (g + 1) s.r2 → (p q : Bool) → ltb b accept ≡ p → ltb b reject ≡ q
-          → get_or after (g * s.r2 + b) 0 ≡ cond p s.accepted (cond q (further s before y g b) 0)
+          → get_or after (g * s.r2 + b) 0 ≡ cond p s.worth.accepted (cond q (further s before y g b) 0)
       value b l true q e f =
           let below : b < u.from = omega (arith, decided.from_is, ltb-true b accept e) in
           stepped.others (g * s.r2 + b) (inl (omega arith)) ∙ decided.accepted b below

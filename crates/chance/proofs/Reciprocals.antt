@@ -4,34 +4,12 @@ use mathlib.Core.Path.{◌≡◌, sym, ap, ◌∙◌}
 use native.Mathlib.Nat.{add-mul, mul-add, mul_assoc, mul_right_comm, mul-le-mul_left, mul-le-mul_right, le_of_mul-le-mul_right, lt_of_mul-lt-mul_right, div-eq_of_lt-le, div-mul-le_self, lt-div-mul-add, div-add-mod', mul-add-div_right, div-div-eq-div-mul, mod-lt, mul-zero, mul-div-mul_right}
 use native.Mathlib.Omega.{arith}
 use Rattle.chance.specs.declared.division.Reciprocal.{Reciprocal}
-use Rattle.chance.specs.Division.{divisor, Exact}
+use Rattle.chance.specs.Division.{Exact}
 
--- ---- the upper half of a product
+-- ---- the reciprocal
 
 of_sum : (h a b y : ℕ) → (a * h + b) * y ≡ a * y * h + b * y
 of_sum h a b y = add-mul (a * h) b y ∙ ap (λ (k : ℕ). k + b * y) (mul_right_comm a h y)
-
-by_sum : (h a c d : ℕ) → a * (c * h + d) ≡ a * c * h + a * d
-by_sum h a c d = mul-add a (c * h) d ∙ ap (λ (k : ℕ). k + a * d) (sym (mul_assoc a c h))
-
--- of two words a·2^32 + b and c·2^32 + d
-halves : (a b c d middle cross : ℕ) → middle ≡ a * d + b * d / 4294967296 → cross ≡ b * c + middle % 4294967296
-    → a * c + middle / 4294967296 + cross / 4294967296 ≡ (a * 4294967296 + b) * (c * 4294967296 + d) / 18446744073709551616
-halves a b c d middle cross e f =
-    let whole = of_sum 4294967296 a b (c * 4294967296 + d) in
-    let left = by_sum 4294967296 a c d in
-    let right = by_sum 4294967296 b c d in
-    sym (div-eq_of_lt-le {k = a * c + middle / 4294967296 + cross / 4294967296} 18446744073709551616 {m = (a * 4294967296 + b) * (c * 4294967296 + d)}
-    (omega (arith, whole, left, right, e, f)) (omega (arith, whole, left, right, e, f)))
-
-pub upper_half : (x y middle cross : ℕ) → middle ≡ x / 4294967296 * (y % 4294967296) + x % 4294967296 * (y % 4294967296) / 4294967296
-    → cross ≡ x % 4294967296 * (y / 4294967296) + middle % 4294967296
-    → x / 4294967296 * (y / 4294967296) + middle / 4294967296 + cross / 4294967296 ≡ x * y / 18446744073709551616
-upper_half x y middle cross e f =
-    halves (x / 4294967296) (x % 4294967296) (y / 4294967296) (y % 4294967296) middle cross e f
-    ∙ (λ i. div-add-mod' x 4294967296 i * div-add-mod' y 4294967296 i / 18446744073709551616)
-
--- ---- the reciprocal
 
 two_steps : (a v h : ℕ) → 0 < v → a / v * h + a % v * h / v ≡ a * h / v
 two_steps a v h some =
@@ -52,9 +30,9 @@ steps v h =
       rest = mod-lt 2251799813685248 (omega arith);
     }
 
-pub exact : (d : Reciprocal) → 0 < divisor d → divisor d ≤ 1048576 → d.inverse ≡ 9671406556917033397649408 / divisor d + 1 → Exact d
-exact d some few e =
-    let v : ℕ = divisor d in
+pub exact : (by scale inverse : ℕ) → 0 < by * scale → by * scale ≤ 1048576 → inverse ≡ 9671406556917033397649408 / (by * scale) + 1 → Exact by scale inverse
+exact by scale inverse some few e =
+    let v : ℕ = by * scale in
     let q : ℕ = 9671406556917033397649408 / v in
     let sum = ap (λ (k : ℕ). k * v) e ∙ add-mul q 1 v in
     record {
@@ -76,10 +54,11 @@ by_inverse n inverse v p small some above below =
     (le_of_mul-le-mul_right {k = v} (omega (arith, whole, mul-le-mul_left n above, mul_right_comm q p v, floor)) some)
     (lt_of_mul-lt-mul_right v (omega (arith, whole, mul-le-mul_left n below, mul-add n p v, mul_right_comm (q + 1) p v, add-mul n 1 p, ceiling)))
 
-pub exactly : (n : ℕ) (d : Reciprocal) → n < 9223372036854775808 → Exact d → n * d.inverse / 18446744073709551616 / 524288 ≡ n / divisor d
-exactly n d small e =
+pub exactly : (n : ℕ) (d : Reciprocal) → n < 9223372036854775808 → n * d.inverse / 18446744073709551616 / 524288 ≡ n / (d.by * d.scale)
+exactly n d small =
+    let e = d.exact in
     div-div-eq-div-mul (n * d.inverse) 18446744073709551616 524288
-    ∙ by_inverse n d.inverse (divisor d) 9671406556917033397649408 (omega (arith, mul-le-mul_left n e.few)) e.some e.above e.below
+    ∙ by_inverse n d.inverse (d.by * d.scale) 9671406556917033397649408 (omega (arith, mul-le-mul_left n e.few)) e.some e.above e.below
 
 -- ---- by the number that is scaled
 
@@ -87,9 +66,9 @@ pos_right : (a b : ℕ) → 0 < a * b → 0 < b
 pos_right a zero h = omega (arith, mul-zero a)
 pos_right a (suc b) h = omega arith
 
-module _ (n : ℕ) (d : Reciprocal) (e : Exact d) where
-  pub scaled : n * d.scale / divisor d ≡ n / d.by
-  scaled = mul-div-mul_right n d.by (pos_right d.by d.scale e.some)
+module _ (n : ℕ) (d : Reciprocal) where
+  pub scaled : n * d.scale / (d.by * d.scale) ≡ n / d.by
+  scaled = mul-div-mul_right n d.by (pos_right d.by d.scale d.exact.some)
 
   pub scaled_fits : (m : ℕ) → n ≤ d.by * m → n * d.scale ≤ 1048576 * m
-  scaled_fits m h = omega (arith, mul-le-mul_right d.scale h, mul_right_comm d.by m d.scale, mul-le-mul_right m e.few)
+  scaled_fits m h = omega (arith, mul-le-mul_right d.scale h, mul_right_comm d.by m d.scale, mul-le-mul_right m d.exact.few)

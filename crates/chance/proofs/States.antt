@@ -1,7 +1,7 @@
 -- One state of a layer: where its word stands, what its step reads, and what its value is.
 -- Assumes nothing.
 use Prim.Native.Nat.{ℕ, ◌+◌, ◌*◌, ◌≤◌, ◌<◌}
-use mathlib.Core.Path.{◌≡◌, refl, ap, ◌∙◌}
+use mathlib.Core.Path.{◌≡◌, refl, ap}
 use mathlib.Core.Bool.{Bool, true, false, cond}
 use mathlib.Core.List.{List}
 use lib.ListN.{get_or}
@@ -12,9 +12,11 @@ use native.Mathlib.Omega.{arith}
 use Rattle.plan.specs.declared.counts.Counts.{Counts}
 use Rattle.chance.specs.declared.mean.Weights.{Weights}
 use Rattle.chance.specs.declared.setting.Setting.{Setting}
+use Rattle.chance.specs.declared.setting.Kind.{Kind}
+use Rattle.chance.specs.declared.setting.Kind.TheVariants.{Same, Left}
 use Rattle.chance.specs.Bounds.{weight_sum, weighted, Rounding, rounded}
-use Rattle.chance.specs.Chance.{left_of}
-use Rattle.chance.specs.Layer.{rounding, setting_weights, at, word, further, Values}
+use Rattle.chance.specs.Constant.{constant_value}
+use Rattle.chance.specs.Layer.{rounding, weights_by, setting_weights, at, word, state_value, further, Values}
 use Rattle.chance.proofs.Rounding.{rounded_le}
 
 -- ---- the mean of three values, none above m
@@ -34,13 +36,13 @@ module _ (w : Weights) {m good marginal bad : ℕ} (h : (good ≤ m) × (margina
 
 -- weights do not rise
 pub weights_few : (s : Setting) (c : Counts) → weight_sum (setting_weights s c) ≤ weight_sum s.weights
-weights_few s c = go s.left
+weights_few s c = go s.kind
   where
-    go : (t : Bool) → weight_sum (cond t (left_of s.weights c) s.weights) ≤ weight_sum s.weights
-    go true = omega arith
-    go false = omega arith
+    go : (k : Kind) → weight_sum (weights_by k s.weights c) ≤ weight_sum s.weights
+    go Same = omega arith
+    go Left = omega arith
 
-pub constant_weights : (s : Setting) (c : Counts) → s.left ≡ false → s.weights ≡ setting_weights s c
+pub constant_weights : (s : Setting) (c : Counts) → s.kind ≡ Same → s.weights ≡ setting_weights s c
 constant_weights s c e = rw e
 
 -- ---- the word of a state
@@ -82,24 +84,24 @@ module _ (r1 r2 : ℕ) (layer : List ℕ) (g b : ℕ) where
 
 -- ---- the value of a state where inspection goes on
 
+pub constant_is : (s : Setting) (y g b good marginal bad : ℕ) → s.kind ≡ Same → constant_value s good marginal bad ≡ state_value s y g b good marginal bad
+constant_is s y g b good marginal bad e = rw e
+
 module _ (s : Setting) (before : List ℕ) (y g b : ℕ) where
-  pub further_is : (w : Weights) (good marginal bad mean : ℕ) → w ≡ setting_weights s (at y g b)
-      → good ≡ word s.r1 s.r2 before g b → marginal ≡ word s.r1 s.r2 before (g + 1) b → bad ≡ word s.r1 s.r2 before (g + 1) (b + 1)
-      → mean ≡ rounded (rounding s.up) (weighted w good marginal bad) (weight_sum w) → s.cost + mean ≡ further s before y g b
-  further_is w good marginal bad mean e p q r f =
-      ap (λ (k : ℕ). s.cost + k) f ∙ (λ i. s.cost + rounded (rounding s.up) (weighted (e i) (p i) (q i) (r i)) (weight_sum (e i)))
+  pub further_is : {good marginal bad : ℕ} → good ≡ word s.r1 s.r2 before g b → marginal ≡ word s.r1 s.r2 before (g + 1) b
+      → bad ≡ word s.r1 s.r2 before (g + 1) (b + 1) → state_value s y g b good marginal bad ≡ further s before y g b
+  further_is p q r i = state_value s y g b (p i) (q i) (r i)
 
   -- it looks at its own word and at the next row
   pub further_same : (layer : List ℕ) → get_or layer (g * s.r2 + b) 0 ≡ get_or before (g * s.r2 + b) 0
       → ((i : ℕ) → (g + 1) * s.r2 ≤ i → get_or layer i 0 ≡ get_or before i 0) → further s layer y g b ≡ further s before y g b
   further_same layer own next =
-      further_is (setting_weights s (at y g b)) _ _ _ _ refl
+      further_is
       (word_same s.r1 s.r2 layer g b before own)
       (word_same s.r1 s.r2 layer (g + 1) b before (next ((g + 1) * s.r2 + b) (omega arith)))
       (word_same s.r1 s.r2 layer (g + 1) (b + 1) before (next ((g + 1) * s.r2 + (b + 1)) (omega arith)))
-      refl
 
-  pub further_at_most : (m : ℕ) → ((i : ℕ) → g * s.r2 ≤ i → i < s.r1 * s.r2 → get_or before i 0 ≤ m) → further s before y g b ≤ s.cost + m
+  pub further_at_most : (m : ℕ) → ((i : ℕ) → g * s.r2 ≤ i → i < s.r1 * s.r2 → get_or before i 0 ≤ m) → further s before y g b ≤ s.worth.cost + m
   further_at_most m h =
       let at_most : (n k : ℕ) → g ≤ n → word s.r1 s.r2 before n k ≤ m
       = λ n k l. word_most s.r1 s.r2 before n k m (λ p q. h (n * s.r2 + k) (omega (arith, mul-le-mul_right s.r2 l)) (inside s.r1 s.r2 n k p q)) in

@@ -1,6 +1,7 @@
 -- What is granted of the expected number of units fits a float, and demand 1 of both calls.
 -- Assumes nothing.
 use Prim.Native.Nat.{ℕ, ◌≤◌}
+use mathlib.Core.Path.{refl}
 use mathlib.Core.List.{List}
 use native.Mathlib.Omega.{arith}
 use Rattle.plan.specs.Plan.{stages}
@@ -9,9 +10,9 @@ use Rattle.plan.proofs.Promise.{shape}
 use Rattle.chance.specs.declared.mean.Weights.{Weights}
 use Rattle.chance.specs.Chance.{scale}
 use Rattle.chance.specs.Reply.{refusals}
-use Rattle.chance.specs.Units.{units_low, units_high, units_bounds, units_answer, units_chart_answer}
+use Rattle.chance.specs.Units.{units_low, units_high, units_answer, units_chart_answer}
 use Rattle.chance.specs.UnitsLaws.{UnitsRefusalLaw}
-use Rattle.chance.proofs.Replies.{both_refused, granted_weights}
+use Rattle.chance.proofs.Replies.{bounds_refused, chart_refused, granted_weights}
 use Rattle.chance.proofs.UnitsLaw.{units_law}
 
 -- a thousand units are fewer than 2^10
@@ -26,4 +27,4 @@ units_fit plan w n h =
 
 pub units_refusal_law : UnitsRefusalLaw
 unfolding units_answer units_chart_answer
-units_refusal_law plan w n = both_refused plan w n 30 (units_bounds (stages plan) w)
+units_refusal_law plan w n = (bounds_refused (refusals plan w n) _ refl, chart_refused (refusals plan w n) _ refl)

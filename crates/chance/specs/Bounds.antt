@@ -1,15 +1,25 @@
 -- Bounds on an expected value over the units to come, rounded at each unit, and the exact sum that they bound. The chance of
 -- acceptance is one case (Chance.antt). Document 01, "Chance of acceptance".
-use Rattle.std.specs.Prelude.{ℕ, zero, suc, ◌+◌, ◌-◌, ◌*◌, ◌/◌, List, [], ◌∷◌}
+use Rattle.std.specs.Prelude.{ℕ, zero, suc, ◌+◌, ◌-◌, ◌*◌, ◌/◌, ◌≤◌, ◌<◌, List, [], ◌∷◌}
 use Rattle.plan.specs.declared.counts.Counts.{Counts}
 use Rattle.plan.specs.declared.stage.Answer.{Answer}
 use Rattle.plan.specs.declared.stage.Answer.TheVariants.{GoOn, Accept, Reject}
 use Rattle.plan.specs.Counts.{add_units}
+use Rattle.chance.specs.declared.answers.Interval.{Interval}
 use Rattle.chance.specs.declared.mean.Weights.{Weights}
+
+-- low and high
+abbrev pub Bounds : Type 0
+Bounds = Interval ℕ
 
 -- W
 abbrev pub weight_sum : Weights → ℕ
 weight_sum w = w.good + w.marginal + w.bad
+
+-- weights that are allowed
+pub record Proportions (w : Weights) : Type 0 where
+  pub some : 0 < weight_sum w
+  pub few : weight_sum w ≤ 1000000
 
 -- the weight of a class; every class but 0 and 2 weighs as marginal
 abbrev pub weight : ℕ → Weights → ℕ

@@ -2,10 +2,11 @@
 -- proofs/Laws.antt.
 use Rattle.std.specs.Prelude.{ℕ, zero, suc, ◌+◌, ◌-◌, ◌*◌, ◌^◌, ◌≤◌, ◌<◌, ◌≡◌, ◌⊎◌, true, List, length}
 use Rattle.plan.specs.declared.counts.Counts.{Counts}
-use Rattle.plan.specs.Plan.{Stage, stages, total, admitted}
+use Rattle.plan.specs.declared.refusal.Refusal.{Refusal}
+use Rattle.plan.specs.declared.stage.Stage.{Stage}
+use Rattle.plan.specs.Plan.{stages, total, admitted}
 use Rattle.plan.specs.Counts.{add_units}
-use Rattle.plan.specs.Refusal.{First, RefusedBy}
-use Rattle.plan.specs.Reply.{refused}
+use Rattle.plan.specs.Refusal.{First, RefusedByNumber}
 use Rattle.chance.specs.declared.mean.Weights.{Weights}
 use Rattle.chance.specs.Bounds.{weight_sum, weight, down, up, Valuation, bound, value_sum}
 use Rattle.chance.specs.Chance.{scale, constant, low, high, accepted_sum}
@@ -58,10 +59,10 @@ FractionLaw = (k x : ℕ) → k ≤ 1074 → x < 2 ^ 53 → Exactly (quotient x 
 
 abbrev pub RefusalLaw : Type 0
 RefusalLaw = (plan : List ℕ) (w : Weights) (n : ℕ) →
-    RefusedBy refused (refusals plan w n) (bounds_reply (chance_answer plan w n)) ×
-    RefusedBy refused (refusals plan w n) (chart_reply (chart_answer plan w n))
+    RefusedByNumber (refusals plan w n) (bounds_reply (chance_answer plan w n)) ×
+    RefusedByNumber (refusals plan w n) (chart_reply (chart_answer plan w n))
 
 -- a refused call leaves every word of the scratch
 abbrev pub WordsLaw : Type 0
-WordsLaw = (plan : List ℕ) (w : Weights) (before after : List ℕ) (number : ℕ) → First (refusals plan w (length before)) number
+WordsLaw = (plan : List ℕ) (w : Weights) (before after : List ℕ) (r : Refusal) → First (refusals plan w (length before)) r
     → Keeps plan w before after → after ≡ before

@@ -7,33 +7,34 @@ use Rattle.plan.specs.Counts.{nongood, no_units}
 use Rattle.plan.specs.Boundaries.{rejection_at}
 use Rattle.plan.specs.Stopping.{earliest}
 use Rattle.chance.specs.declared.mean.Weights.{Weights}
+use Rattle.chance.specs.declared.setting.Worth.{Worth}
+use Rattle.chance.specs.declared.setting.Kind.{Kind}
+use Rattle.chance.specs.declared.setting.Kind.TheVariants.{Same, Left}
 use Rattle.chance.specs.declared.setting.Setting.{Setting}
-use Rattle.chance.specs.declared.division.Reciprocal.{Reciprocal}
 use Rattle.chance.specs.declared.row.Undecided.{Undecided}
-use Rattle.chance.specs.declared.answers.Bounds.{Bounds}
-use Rattle.chance.specs.Bounds.{weight_sum, weighted, Rounding, down, up, rounded, Valuation, step, bound}
+use Rattle.chance.specs.Bounds.{Bounds, weight_sum, weighted, Rounding, down, up, rounded, Valuation, step, bound}
 use Rattle.chance.specs.Chance.{scale, left_of}
-use Rattle.chance.specs.Division.{Exact}
 
 abbrev pub rounding : Bool → Rounding
 rounding false = down
 rounding true = up
 
 -- constant weights, or what is left of them
-abbrev pub weights_by : Bool → Weights → Counts → Weights
-weights_by left w c = cond left (left_of w c) w
+abbrev pub weights_by : Kind → Weights → Counts → Weights
+weights_by Same w c = w
+weights_by Left w c = left_of w c
 
 -- a value at acceptance, none at rejection, and a cost of each further unit
-abbrev pub valuation : List ℕ → ℕ → ℕ → Weights → Bool → Valuation
-valuation plan accepted cost w left =
-    record { decision = earliest (stages plan); weights = weights_by left w; accepted = accepted; rejected = 0; cost = cost }
+abbrev pub valuation : List ℕ → Worth → Weights → Kind → Valuation
+valuation plan worth w kind =
+    record { decision = earliest (stages plan); weights = weights_by kind w; accepted = worth.accepted; rejected = 0; cost = worth.cost }
 
 abbrev pub setting_weights : Setting → Counts → Weights
-setting_weights s = weights_by s.left s.weights
+setting_weights s = weights_by s.kind s.weights
 
 -- what the layers of a setting bound
 abbrev pub setting_value : List ℕ → Setting → Valuation
-setting_value plan s = valuation plan s.accepted s.cost s.weights s.left
+setting_value plan s = valuation plan s.worth s.weights s.kind
 
 -- both bounds before any unit
 abbrev pub valued_bounds : List ℕ → Valuation → Bounds
@@ -52,14 +53,9 @@ word_of s layer c = word s.r1 s.r2 layer (nongood c) c.bad
 
 -- ---- what is asked
 
--- weights that are allowed
-pub record Proportions (w : Weights) : Type 0 where
-  pub some : 0 < weight_sum w
-  pub few : weight_sum w ≤ 1000000
-
 -- no value of a layer of y units is more, so that no sum of three by their weights passes 64 bits
 abbrev pub most : Setting → ℕ → ℕ
-most s y = s.accepted + s.cost * (1001 - y)
+most s y = s.worth.accepted + s.worth.cost * (1001 - y)
 
 -- the first n words are at most m
 abbrev pub Values : ℕ → ℕ → List ℕ → Type 0
@@ -67,23 +63,15 @@ Values n m layer = (i : ℕ) → i < n → get_or layer i 0 ≤ m
 
 -- a run of words that has the values of a layer
 pub record Valued (layer : List ℕ) (s : Setting) : Type 0 where
-  pub few : weight_sum s.weights ≤ 1000000
-  pub fits : most s 0 ≤ scale
   pub room : s.r1 * s.r2 ≤ length layer
   pub values : Values (s.r1 * s.r2) scale layer
 
--- a reciprocal that serves: of the sum of the weights, if they are constant
-pub record Serves (s : Setting) (d : Reciprocal) : Type 0 where
-  pub exact : Exact d
-  pub of_sum : s.left ≡ false → d.by ≡ weight_sum s.weights
-
 -- a row of a layer, and a number of bad units up to which it is stepped
-pub record Between (s : Setting) (d : Reciprocal) (y g to : ℕ) : Type 0 where
+pub record Between (s : Setting) (y g to : ℕ) : Type 0 where
   pub inside : g < s.r1
   pub few : g ≤ y
   pub thousand : y ≤ 1000
   pub upto : to ≤ min (g + 1) s.r2
-  pub serves : Serves s d
 
 -- the weights are not all 0 at the states between two numbers of bad units
 abbrev pub Weighs : Setting → ℕ → ℕ → ℕ → ℕ → Type 0
@@ -92,9 +80,7 @@ Weighs s y g from to = (b : ℕ) → from ≤ b → b < to → b ≤ g → 0 < w
 -- a setting that suits the plan: weights that fall last for the whole sample
 pub record Suits (plan : List ℕ) (s : Setting) : Type 0 where
   pub admitted : admitted plan ≡ true
-  pub proportions : Proportions s.weights
-  pub enough : s.left ≡ true → total (stages plan) ≤ weight_sum s.weights
-  pub fits : most s 0 ≤ scale
+  pub enough : s.kind ≡ Left → total (stages plan) ≤ weight_sum s.weights
   pub reject1 : s.r1 ≡ last_reject1 (stages plan)
   pub reject2 : s.r2 ≡ last_reject2 (stages plan)
 
@@ -107,8 +93,6 @@ pub record Ready (plan layer : List ℕ) (s : Setting) (y : ℕ) : Type 0 where
 
 -- the same once the rows before the one of `first` nongood units are stepped
 pub record Partly (layer : List ℕ) (s : Setting) (y first : ℕ) : Type 0 where
-  pub few : weight_sum s.weights ≤ 1000000
-  pub fits : most s 0 ≤ scale
   pub thousand : y ≤ 1000
   pub room : s.r1 * s.r2 ≤ length layer
   pub values : Values (s.r1 * s.r2) (most s y) layer
@@ -144,12 +128,14 @@ pub record Filled (from to value : ℕ) (before after : List ℕ) : Type 0 where
   pub done : (i : ℕ) → from ≤ i → i < to → get_or after i 0 ≡ value
   pub others : Outside from to before after
 
--- the value of a state where inspection goes on, by the words one unit on
+-- the value of a state where inspection goes on, by the values after a good, a marginal and a bad unit
+abbrev pub state_value : Setting → ℕ → ℕ → ℕ → ℕ → ℕ → ℕ → ℕ
+state_value s y g b good marginal bad =
+    s.worth.cost + rounded (rounding s.up) (weighted (setting_weights s (at y g b)) good marginal bad) (weight_sum (setting_weights s (at y g b)))
+
+-- by the words one unit on
 abbrev pub further : Setting → List ℕ → ℕ → ℕ → ℕ → ℕ
-further s layer y g b =
-    s.cost + rounded (rounding s.up)
-    (weighted (setting_weights s (at y g b)) (word s.r1 s.r2 layer g b) (word s.r1 s.r2 layer (g + 1) b) (word s.r1 s.r2 layer (g + 1) (b + 1)))
-    (weight_sum (setting_weights s (at y g b)))
+further s layer y g b = state_value s y g b (word s.r1 s.r2 layer g b) (word s.r1 s.r2 layer (g + 1) b) (word s.r1 s.r2 layer (g + 1) (b + 1))
 
 pub record Further (s : Setting) (y g from to : ℕ) (before after : List ℕ) : Type 0 where
   pub done : (b : ℕ) → from ≤ b → b < to → get_or after (g * s.r2 + b) 0 ≡ further s before y g b
@@ -166,13 +152,13 @@ pub record FurtherTo (s : Setting) (y g from to : ℕ) (before layer : List ℕ)
 
 -- the value of a state by the limits: accepted with fewer than `accept` bad units, else rejected from `reject` on
 abbrev pub by_limits : Setting → ℕ → ℕ → ℕ → ℕ → ℕ
-by_limits s accept reject b on = cond (ltb b accept) s.accepted (cond (ltb b reject) on 0)
+by_limits s accept reject b on = cond (ltb b accept) s.worth.accepted (cond (ltb b reject) on 0)
 
 -- after the decided states of the row of g nongood units are written, and the others
 pub record Decided (s : Setting) (g accept reject : ℕ) (before after : List ℕ) (u : Undecided) : Type 0 where
   pub from_is : u.from ≡ min accept (min (g + 1) s.r2)
   pub to_is : u.to ≡ min reject (min (g + 1) s.r2)
-  pub accepted : (b : ℕ) → b < u.from → get_or after (g * s.r2 + b) 0 ≡ s.accepted
+  pub accepted : (b : ℕ) → b < u.from → get_or after (g * s.r2 + b) 0 ≡ s.worth.accepted
   pub rejected : (b : ℕ) → u.from ≤ b → u.to ≤ b → b < min (g + 1) s.r2 → get_or after (g * s.r2 + b) 0 ≡ 0
   pub undecided : (b : ℕ) → u.from ≤ b → b < u.to → get_or after (g * s.r2 + b) 0 ≡ get_or before (g * s.r2 + b) 0
   pub others : Outside (g * s.r2) (g * s.r2 + min (g + 1) s.r2) before after

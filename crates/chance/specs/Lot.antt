@@ -1,14 +1,17 @@
 -- The chance of acceptance of a lot of known size, whose units are drawn without replacement: the exact chance, its bounds low and
 -- high, and what `lot_chance` answers and leaves of the scratch. Document 02, change 2.
 use Rattle.std.specs.Prelude.{ℕ, zero, suc, ◌+◌, ◌≤◌, cond, ◌||◌, List, [], ◌∷◌, ◌++◌, length, ltb, eqb}
-use Rattle.plan.specs.Plan.{Stage, stages, total}
+use Rattle.std.specs.declared.result.Result.{Result}
+use Rattle.std.specs.declared.result.Result.TheVariants.{Ok, Err}
+use Rattle.plan.specs.declared.refusal.Refusal.{Refusal}
+use Rattle.plan.specs.declared.refusal.Refusal.TheVariants as refusal
+use Rattle.plan.specs.declared.stage.Stage.{Stage}
+use Rattle.plan.specs.Plan.{stages, total}
 use Rattle.plan.specs.Counts.{no_units}
-use Rattle.plan.specs.Refusal.{Refusal, first_refusal}
+use Rattle.plan.specs.Refusal.{Row, first_refusal}
 use Rattle.plan.specs.Sample.{verdict}
 use Rattle.chance.specs.declared.mean.Weights.{Weights}
-use Rattle.chance.specs.declared.answers.Bounds.{Bounds}
-use Rattle.chance.specs.declared.answers.BoundsAnswer.{BoundsAnswer}
-use Rattle.chance.specs.Bounds.{weight_sum, Rounding, down, up, bound}
+use Rattle.chance.specs.Bounds.{Bounds, weight_sum, Rounding, down, up, bound}
 use Rattle.chance.specs.Chance.{chance_value, left_of, indicator}
 use Rattle.chance.specs.Reply.{plan_row, scratch_row, Kept}
 
@@ -60,18 +63,18 @@ lot_high = lot_bound up
 -- ---- the answer
 
 -- a row of the table "Refused": the lot has fewer units than the sample or more than 1,000,000
-abbrev pub lot_row : List ℕ → Weights → Refusal
-lot_row plan lot = record { number = 17; when = ltb (weight_sum lot) (total (stages plan)) || ltb 1000000 (weight_sum lot) }
+abbrev pub lot_row : List ℕ → Weights → Row
+lot_row plan lot = record { refusal = refusal.LotSize; when = ltb (weight_sum lot) (total (stages plan)) || ltb 1000000 (weight_sum lot) }
 
-abbrev pub lot_refusals : List ℕ → Weights → ℕ → List Refusal
+abbrev pub lot_refusals : List ℕ → Weights → ℕ → List Row
 lot_refusals plan lot n = plan_row plan ∷ lot_row plan lot ∷ scratch_row plan n ∷ []
 
 abbrev pub lot_bounds : List Stage → Weights → Bounds
 lot_bounds p lot = record { low = lot_low p lot; high = lot_high p lot }
 
--- `lot_chance`: the number of the first row that applies, else low and high
-unfoldable pub lot_answer : List ℕ → Weights → ℕ → BoundsAnswer
-lot_answer plan lot n = first_refusal BoundsAnswer.Refused (lot_refusals plan lot n) (BoundsAnswer.Pair (lot_bounds (stages plan) lot))
+-- `lot_chance`: the first row that applies, else low and high
+unfoldable pub lot_answer : List ℕ → Weights → ℕ → Result Bounds Refusal
+lot_answer plan lot n = first_refusal Err (lot_refusals plan lot n) (Ok (lot_bounds (stages plan) lot))
 
 -- which words of the scratch it leaves
 abbrev pub LotKeeps : List ℕ → Weights → List ℕ → List ℕ → Type 0

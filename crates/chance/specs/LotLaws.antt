@@ -1,8 +1,10 @@
 -- The laws of the chance for lots of known size: statements alone. They are proved in proofs/Laws.antt. Document 02, change 2.
 use Rattle.std.specs.Prelude.{ℕ, zero, suc, ◌-◌, ◌*◌, ◌≤◌, ◌≡◌, ◌≢◌, true, List, length}
-use Rattle.plan.specs.Plan.{Stage, stages, total, admitted}
+use Rattle.plan.specs.declared.refusal.Refusal.{Refusal}
+use Rattle.plan.specs.declared.stage.Stage.{Stage}
+use Rattle.plan.specs.Plan.{stages, total, admitted}
 use Rattle.plan.specs.Counts.{no_units}
-use Rattle.plan.specs.Refusal.{First, RefusedBy}
+use Rattle.plan.specs.Refusal.{First, RefusedByNumber}
 use Rattle.plan.specs.Reply.{refused}
 use Rattle.chance.specs.declared.mean.Weights.{Weights}
 use Rattle.chance.specs.Bounds.{sum_over, weight_product}
@@ -57,7 +59,7 @@ CertainLaw = (plan : List ℕ) (t : ℕ) → admitted plan ≡ true → total (s
 -- ---- demand 1
 
 abbrev pub LotRefusalLaw : Type 0
-LotRefusalLaw = (plan : List ℕ) (lot : Weights) (n : ℕ) → RefusedBy refused (lot_refusals plan lot n) (bounds_reply (lot_answer plan lot n))
+LotRefusalLaw = (plan : List ℕ) (lot : Weights) (n : ℕ) → RefusedByNumber (lot_refusals plan lot n) (bounds_reply (lot_answer plan lot n))
 
 -- the call takes no weights, so that 13 is never its reply
 abbrev pub LotWeightsLaw : Type 0
@@ -65,5 +67,5 @@ LotWeightsLaw = (plan : List ℕ) (lot : Weights) (n : ℕ) → bounds_reply (lo
 
 -- a refused call leaves every word of the scratch
 abbrev pub LotWordsLaw : Type 0
-LotWordsLaw = (plan : List ℕ) (lot : Weights) (before after : List ℕ) (number : ℕ) → First (lot_refusals plan lot (length before)) number
+LotWordsLaw = (plan : List ℕ) (lot : Weights) (before after : List ℕ) (r : Refusal) → First (lot_refusals plan lot (length before)) r
     → LotKeeps plan lot before after → after ≡ before

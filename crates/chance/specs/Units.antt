@@ -1,20 +1,21 @@
 -- The expected number of units at the earliest stop (the field's term: average sample number): the exact sum, its bounds low and
 -- high, and what `units` and `units_chart` answer. Document 02, change 6.
 use Rattle.std.specs.Prelude.{ℕ, ◌+◌, ◌*◌, ◌^◌, List, [], ◌∷◌}
+use Rattle.std.specs.declared.result.Result.{Result}
+use Rattle.std.specs.declared.result.Result.TheVariants.{Ok, Err}
+use Rattle.plan.specs.declared.refusal.Refusal.{Refusal}
 use Rattle.plan.specs.declared.counts.Counts.{Counts}
 use Rattle.plan.specs.declared.stage.Answer.{Answer}
 use Rattle.plan.specs.declared.stage.Answer.TheVariants.{GoOn, Accept, Reject}
-use Rattle.plan.specs.Plan.{Stage, stages, total}
+use Rattle.plan.specs.declared.stage.Stage.{Stage}
+use Rattle.plan.specs.Plan.{stages, total}
 use Rattle.plan.specs.Counts.{no_units, add_units}
 use Rattle.plan.specs.Stopping.{earliest}
 use Rattle.plan.specs.Refusal.{first_refusal}
 use Rattle.chance.specs.declared.mean.Weights.{Weights}
-use Rattle.chance.specs.declared.answers.Bounds.{Bounds}
-use Rattle.chance.specs.declared.answers.BoundsAnswer.{BoundsAnswer}
-use Rattle.chance.specs.declared.answers.ChartAnswer.{ChartAnswer}
-use Rattle.chance.specs.Bounds.{Rounding, down, up, Valuation, bound, sum_over, weight_product}
+use Rattle.chance.specs.Bounds.{Bounds, Rounding, down, up, Valuation, bound, sum_over, weight_product}
 use Rattle.chance.specs.Chance.{constant}
-use Rattle.chance.specs.Reply.{refusals, floats, ExactFloats}
+use Rattle.chance.specs.Reply.{Chart, refusals, floats, ExactFloats}
 
 -- ---- the exact value
 
@@ -62,14 +63,14 @@ units_bounds p w = record { low = units_low p w; high = units_high p w }
 
 -- ---- the answers: refused as the chance of acceptance is, by the same rows
 
--- `units`: the number of the first row that applies, else low and high
-unfoldable pub units_answer : List ℕ → Weights → ℕ → BoundsAnswer
-units_answer plan w n = first_refusal BoundsAnswer.Refused (refusals plan w n) (BoundsAnswer.Pair (units_bounds (stages plan) w))
+-- `units`: the first row that applies, else low and high
+unfoldable pub units_answer : List ℕ → Weights → ℕ → Result Bounds Refusal
+units_answer plan w n = first_refusal Err (refusals plan w n) (Ok (units_bounds (stages plan) w))
 
 -- `units_chart`: refused alike, else low / 2^30 and high / 2^30 as floats
-unfoldable pub units_chart_answer : List ℕ → Weights → ℕ → ChartAnswer
-units_chart_answer plan w n = first_refusal ChartAnswer.Refused (refusals plan w n) (ChartAnswer.Pair (floats 30 (units_bounds (stages plan) w)))
+unfoldable pub units_chart_answer : List ℕ → Weights → ℕ → Result Chart Refusal
+units_chart_answer plan w n = first_refusal Err (refusals plan w n) (Ok (floats 30 (units_bounds (stages plan) w)))
 
 -- the floats of a pair are low / 2^30 and high / 2^30 exactly
-abbrev pub ExactUnitsChart : List ℕ → Weights → ChartAnswer → Type 0
+abbrev pub ExactUnitsChart : List ℕ → Weights → Result Chart Refusal → Type 0
 ExactUnitsChart plan w = ExactFloats 30 (units_bounds (stages plan) w)

@@ -2,11 +2,11 @@
 use Rattle.std.specs.Prelude.{ℕ, zero, suc, ◌-◌, ◌*◌, ◌^◌, ◌≤◌, ◌<◌, ◌≡◌, ◌↔◌, true, List, [], replicate}
 use Rattle.plan.specs.declared.stage.Answer.{Answer}
 use Rattle.plan.specs.declared.stage.Answer.TheVariants.{Accept, Reject}
-use Rattle.plan.specs.Plan.{Stage, stages, total, admitted}
+use Rattle.plan.specs.declared.stage.Stage.{Stage}
+use Rattle.plan.specs.Plan.{stages, total, admitted}
 use Rattle.plan.specs.Sample.{verdict, Completion, Stops}
 use Rattle.plan.specs.Promise.{earliest_rule}
-use Rattle.plan.specs.Refusal.{RefusedBy}
-use Rattle.plan.specs.Reply.{refused}
+use Rattle.plan.specs.Refusal.{RefusedByNumber}
 use Rattle.chance.specs.declared.mean.Weights.{Weights}
 use Rattle.chance.specs.Bounds.{weight_sum}
 use Rattle.chance.specs.Chance.{constant}
@@ -60,5 +60,5 @@ OneVerdictLaw = (plan : List ℕ) → admitted plan ≡ true →
 
 abbrev pub UnitsRefusalLaw : Type 0
 UnitsRefusalLaw = (plan : List ℕ) (w : Weights) (n : ℕ) →
-    RefusedBy refused (refusals plan w n) (bounds_reply (units_answer plan w n)) ×
-    RefusedBy refused (refusals plan w n) (chart_reply (units_chart_answer plan w n))
+    RefusedByNumber (refusals plan w n) (bounds_reply (units_answer plan w n)) ×
+    RefusedByNumber (refusals plan w n) (chart_reply (units_chart_answer plan w n))

@@ -2,12 +2,19 @@
 ghost use Rattle.std.specs.Prelude.{◌≡◌, ◌≤◌, length};
 ghost use Rattle.chance.specs.Chance.{scale};
 ghost use Rattle.chance.specs.Fraction.{divided};
-ghost use Rattle.chance.specs.Reply.{weights_of, chart_answer, ExactChart, divided_answer, Fits, Keeps};
+ghost use Rattle.chance.specs.Reply.{weights_of, chart_answer, ExactChart, divided_bounds, Keeps};
 ghost use Rattle.chance.specs.Units.{units_chart_answer, ExactUnitsChart};
 
 use crate::acceptance::chance;
-use crate::answers::{BoundsAnswer, Chart, ChartAnswer};
+use crate::answers::{Bounds, Chart, Interval};
 use crate::expected_units::units;
+use plan::Refusal;
+
+// 2^40
+const CERTAIN: f64 = 1099511627776.0;
+
+// 2^30
+const UNIT: f64 = 1073741824.0;
 
 // x / one. Where `one` is a power of two, nothing is rounded.
 fn fraction(x: u64, one: f64) -> f64
@@ -17,37 +24,39 @@ fn fraction(x: u64, one: f64) -> f64
     x as f64 / one
 }
 
-// Both bounds divided by it, or the refusal.
-fn fractions(answer: BoundsAnswer, one: f64) -> ChartAnswer
-    requires { Fits answer }
-    ensures { result ≡ divided_answer one answer }
+// Both bounds divided by it.
+fn fractions(bounds: Bounds, one: f64) -> Chart
+    requires { (bounds.low ≤ scale) × (bounds.high ≤ scale) }
+    ensures { result ≡ divided_bounds one bounds }
 {
-    match answer {
-        BoundsAnswer::Pair(bounds) => {
-            let low = fraction(bounds.low, one);
-            let high = fraction(bounds.high, one);
-            ChartAnswer::Pair(Chart { low, high })
-        }
-        BoundsAnswer::Refused(n) => ChartAnswer::Refused(n),
+    Interval {
+        low: fraction(bounds.low, one),
+        high: fraction(bounds.high, one),
     }
 }
 
 // The bounds of the chance of acceptance as floats, or the refusal.
-pub fn chart(plan: &[u32], w0: u32, w1: u32, w2: u32, scratch: &mut [u64]) -> ChartAnswer
+pub fn chart(plan: &[u32], w0: u32, w1: u32, w2: u32, scratch: &mut [u64]) -> Result<Chart, Refusal>
     ensures value { result ≡ chart_answer plan.now (weights_of w0 w1 w2) (length scratch.old) }
     ensures exact_chart { ExactChart plan.now (weights_of w0 w1 w2) result }
     ensures keeps { Keeps plan.now (weights_of w0 w1 w2) scratch.old scratch.new }
 {
-    let bounds = chance(plan, w0, w1, w2, scratch);
-    fractions(bounds, 1099511627776.0)
+    let bounds = chance(plan, w0, w1, w2, scratch)?;
+    Ok(fractions(bounds, CERTAIN))
 }
 
 // Those of the expected number of units.
-pub fn units_chart(plan: &[u32], w0: u32, w1: u32, w2: u32, scratch: &mut [u64]) -> ChartAnswer
+pub fn units_chart(
+    plan: &[u32],
+    w0: u32,
+    w1: u32,
+    w2: u32,
+    scratch: &mut [u64],
+) -> Result<Chart, Refusal>
     ensures value { result ≡ units_chart_answer plan.now (weights_of w0 w1 w2) (length scratch.old) }
     ensures exact_units_chart { ExactUnitsChart plan.now (weights_of w0 w1 w2) result }
     ensures keeps { Keeps plan.now (weights_of w0 w1 w2) scratch.old scratch.new }
 {
-    let bounds = units(plan, w0, w1, w2, scratch);
-    fractions(bounds, 1073741824.0)
+    let bounds = units(plan, w0, w1, w2, scratch)?;
+    Ok(fractions(bounds, UNIT))
 }

@@ -3,13 +3,22 @@ ghost use Rattle.std.specs.Prelude.{◌≡◌, length};
 ghost use Rattle.chance.specs.Reply.{weights_of, Keeps};
 ghost use Rattle.chance.specs.Units.{units_answer};
 
-use crate::answers::BoundsAnswer;
+use crate::answers::Bounds;
 use crate::bounding::weighted;
+use crate::mean::Weights;
+use crate::setting::Worth;
+use plan::Refusal;
 
-// Low and high, in units of 2^-30, or the refusal. A lot that is decided is worth 0, and each unit before costs 2^30.
-pub fn units(plan: &[u32], w0: u32, w1: u32, w2: u32, scratch: &mut [u64]) -> BoundsAnswer
+// Low and high, in units of 2^-30, or the refusal.
+pub fn units(
+    plan: &[u32],
+    w0: u32,
+    w1: u32,
+    w2: u32,
+    scratch: &mut [u64],
+) -> Result<Bounds, Refusal>
     ensures value { result ≡ units_answer plan.now (weights_of w0 w1 w2) (length scratch.old) }
     ensures keeps { Keeps plan.now (weights_of w0 w1 w2) scratch.old scratch.new }
 {
-    weighted(plan, w0, w1, w2, 0, 1073741824, scratch)
+    weighted(plan, Weights::of(w0, w1, w2), Worth::of_units(), scratch)
 }

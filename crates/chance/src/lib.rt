@@ -15,11 +15,13 @@ mod expected_units;
 mod layer;
 mod lot;
 mod mean;
+mod means;
+mod outcomes;
 mod row;
 mod setting;
 
 pub use acceptance::chance;
-pub use answers::{Bounds, BoundsAnswer, Chart, ChartAnswer};
+pub use answers::{Bounds, Chart, Interval};
 pub use charting::{chart, units_chart};
 pub use expected_units::units;
 pub use lot::lot_chance;

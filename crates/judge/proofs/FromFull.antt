@@ -17,7 +17,7 @@ use Rattle.plan.specs.declared.ways.StageWay.TheVariants.{Uncurtailed, Semi, Ful
 use Rattle.plan.specs.declared.ways.Way.TheVariants.{Staged, Earliest}
 use Rattle.plan.specs.Plan.{stages, total, end_from, admitted}
 use Rattle.plan.specs.Counts.{units, nongood, no_units, add_units, counts_after, counts}
-use Rattle.plan.specs.Stopping.{staged, earliest, answer}
+use Rattle.plan.specs.Stopping.{goes_on, staged, earliest, answer}
 use Rattle.plan.specs.Boundaries.{accept_limit}
 use Rattle.plan.specs.Sample.{are_classes, Stops}
 use Rattle.plan.specs.Promise.{SameStage}
@@ -27,7 +27,7 @@ use Rattle.plan.proofs.Sample.{classing}
 use Rattle.judge.specs.declared.stop.Stop.{Stop}
 use Rattle.judge.specs.Judge.{no_stop, stop_here, first_stop, stop_of}
 use Rattle.judge.specs.Laws.{at, rule_of}
-use Rattle.judge.specs.Run.{goes_on, Between, units_before, BeforeStop, semi_by, semi_stop}
+use Rattle.judge.specs.Run.{Between, units_before, BeforeStop, semi_by, semi_stop}
 use Rattle.judge.proofs.Along.{next_counts, stop_within}
 use Rattle.judge.proofs.Runs.{run, run_counts, units_to}
 use Rattle.judge.proofs.Stops.{to_staged, from_staged, from_earliest, begins, stop_is, is_stop, some, none, never}

@@ -14,13 +14,13 @@ use Rattle.plan.specs.declared.stage.Answer.TheVariants.{GoOn, Accept, Reject}
 use Rattle.plan.specs.declared.ways.Way.{Way}
 use Rattle.plan.specs.Plan.{stages, total, end_from, admitted}
 use Rattle.plan.specs.Counts.{units, add_units, counts_after, counts}
-use Rattle.plan.specs.Stopping.{answer}
+use Rattle.plan.specs.Stopping.{goes_on, answer}
 use Rattle.plan.specs.Sample.{Stops}
 use Rattle.plan.specs.Promise.{SameStage}
 use Rattle.plan.proofs.Promise.{promise}
 use Rattle.judge.specs.Judge.{no_stop, stop_of}
 use Rattle.judge.specs.Laws.{at, rule_of}
-use Rattle.judge.specs.Run.{goes_on, Steady, Between, units_before, BeforeStop}
+use Rattle.judge.specs.Run.{Steady, Between, units_before, BeforeStop}
 use Rattle.judge.proofs.Along.{next_counts}
 use Rattle.judge.proofs.Runs.{run, run_counts, run_length, units_to}
 use Rattle.judge.proofs.Stops.{stop_is, is_stop, some, none, never}

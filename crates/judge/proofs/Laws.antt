@@ -2,11 +2,13 @@
 use Prim.Native.Nat.{ℕ, ◌+◌, ◌-◌, ◌≤◌, ◌<◌}
 use native.Mathlib.Omega.{arith}
 use native.Mathlib.Decide.{dec_lt}
-use mathlib.Core.Path.{◌≡◌, refl, ap, sym, ◌∙◌}
+use mathlib.Core.Path.{◌≡◌, refl, ap, sym, subst, ◌∙◌}
 use mathlib.Core.Logic.{◌≢◌, inl, inr}
 use mathlib.Core.Bool.{Bool, true, false, not}
 use mathlib.Core.List.{List, [], ◌∷◌}
 use lib.ListN.{length, take, get_or}
+use Rattle.std.specs.declared.result.Result.{Result}
+use Rattle.std.specs.declared.result.Result.TheVariants.{Ok, Err}
 use lib.Seq.{take-take}
 use Rattle.plan.specs.declared.counts.Counts.{Counts}
 use Rattle.plan.specs.declared.stage.Answer.{Answer}
@@ -20,17 +22,17 @@ use Rattle.plan.specs.Counts.{units, no_units, add_units, counts}
 use Rattle.plan.specs.Stopping.{staged, answer}
 use Rattle.plan.specs.Sample.{Classes, are_classes, Stops}
 use Rattle.plan.specs.Blanks.{as_marginal, blanks_as_marginal}
-use Rattle.plan.specs.Refusal.{Refusal, First}
-use Rattle.plan.specs.Reply.{refused}
+use Rattle.plan.specs.declared.refusal.Refusal.{Refusal}
+use Rattle.plan.specs.declared.refusal.Refusal.TheVariants.{Plan, Class}
+use Rattle.plan.specs.Refusal.{Row, First, RefusedByNumber}
 use Rattle.plan.specs.Promise.{staged_rule, OneStage}
 use Rattle.plan.proofs.Answers.{reject_stops}
 use Rattle.plan.proofs.Promise.{shape, one_stage, promise, ways}
 use Rattle.plan.proofs.Sample.{classing}
 use Rattle.plan.proofs.Blanks.{blank_laws}
-use Rattle.plan.proofs.Refusals.{first_refusals, refusal_law}
+use Rattle.plan.proofs.Refusals.{first_refusals, number_law}
 use Rattle.judge.specs.declared.stop.Stop.{Stop}
-use Rattle.judge.specs.declared.list.Judged.{Judged}
-use Rattle.judge.specs.declared.list.Judged.TheVariants.{Refused, Stops as StoppedList}
+use Rattle.judge.specs.declared.list.Judgement.{Judgement}
 use Rattle.judge.specs.Event.{events, how_many}
 use Rattle.judge.specs.Judge.{first_stop, stop_of, refusals, judgement, judged, judge_reply}
 use Rattle.judge.specs.Laws.{at, rule_of, RefusedRightly, GrantedRightly, BlanksAsMarginal, StopLaws, ClassLaws}
@@ -41,43 +43,34 @@ use Rattle.judge.proofs.FullStop.{at_acceptance, at_rejection}
 
 -- ---- refusals
 
--- a refused reply is of that refusal
-of_reply : (d : Judged) (n : ℕ) → judge_reply d ≡ refused n → d ≡ Refused n
-of_reply (Refused m) n e = cc
-of_reply (StoppedList j) n e = cc
-
 pub refused_rightly : (plan list : List ℕ) → RefusedRightly plan list
 unfolding judged
 refused_rightly plan list =
-    let law = refusal_law Judged Refused (refusals plan list) (StoppedList (judgement plan list)) (λ m k e. cc) (λ k e. let z : ◌≡◌ {A = ℕ} 0 1 = cc in omega arith) refl in
-    record {
-      exactly = λ n. (λ e. (law.exactly n).0 (of_reply _ n e), λ f. ap judge_reply ((law.exactly n).1 f));
-      none_before = λ n m e. law.none_before n m (of_reply _ n e);
-      never_zero = λ e. law.never_zero (of_reply _ 0 e);
-    }
+    let rows = refusals plan list in
+    subst (RefusedByNumber rows) (sym (first_refusals.mapped _ _ judge_reply Err rows (Ok (judgement plan list)))) (number_law rows _ refl)
 
 pub granted_rightly : (plan list : List ℕ) → GrantedRightly plan list
 unfolding judged
 granted_rightly plan list j = (
   go (admitted plan) (are_classes list) refl refl,
-  λ f. first_refusals.grants _ Refused (refusals plan list) _ (ap not f.0, (ap not f.1, tt)) ∙ ap StoppedList (sym f.2),
+  λ f. first_refusals.grants _ Err (refusals plan list) _ (ap not f.0, (ap not f.1, tt)) ∙ ap Ok (sym f.2),
 )
   where
-    rows : List Refusal
+    rows : List Row
     rows = refusals plan list
 
-    refused_not : (n : ℕ) → First rows n → judged plan list ≡ StoppedList j → ⊥
+    refused_not : (n : Refusal) → First rows n → judged plan list ≡ Ok j → ⊥
     refused_not n f g =
-        let h : Refused n ≡ StoppedList j = sym (first_refusals.refuses _ Refused rows (StoppedList (judgement plan list)) n f) ∙ g in
+        let h : ◌≡◌ {A = Result Judgement Refusal} (Err n) (Ok j) = sym (first_refusals.refuses _ Err rows (Ok (judgement plan list)) n f) ∙ g in
         let z : ◌≡◌ {A = ℕ} 0 1 = cc in
         omega arith
 
-    go : (a b : Bool) → admitted plan ≡ a → are_classes list ≡ b → judged plan list ≡ StoppedList j
+    go : (a b : Bool) → admitted plan ≡ a → are_classes list ≡ b → judged plan list ≡ Ok j
         → (admitted plan ≡ true) × (are_classes list ≡ true) × (j ≡ judgement plan list)
-    go false b e f g = absurd (refused_not 2 (inl (ap not e, refl)) g)
-    go true false e f g = absurd (refused_not 7 (inr (ap not e, inl (ap not f, refl))) g)
+    go false b e f g = absurd (refused_not Plan (inl (ap not e, refl)) g)
+    go true false e f g = absurd (refused_not Class (inr (ap not e, inl (ap not f, refl))) g)
     go true true e f g =
-        let h : StoppedList (judgement plan list) ≡ StoppedList j = sym (first_refusals.grants _ Refused rows (StoppedList (judgement plan list)) (ap not e, (ap not f, tt))) ∙ g in
+        let h : ◌≡◌ {A = Result Judgement Refusal} (Ok (judgement plan list)) (Ok j) = sym (first_refusals.grants _ Err rows (Ok (judgement plan list)) (ap not e, (ap not f, tt))) ∙ g in
         (e, f, cc)
 
 -- ---- blanks

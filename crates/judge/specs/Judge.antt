@@ -1,5 +1,7 @@
 -- A list of classes judged four ways. Document 01, "Lists, events, estimates" and "Refused".
 use Rattle.std.specs.Prelude.{ℕ, not, cond, List, [], ◌∷◌, length, get_or, eqb}
+use Rattle.std.specs.declared.result.Result.{Result}
+use Rattle.std.specs.declared.result.Result.TheVariants.{Ok, Err}
 use Rattle.plan.specs.declared.counts.Counts.{Counts}
 use Rattle.plan.specs.declared.stage.Answer.{Answer}
 use Rattle.plan.specs.declared.stage.Answer.TheVariants.{GoOn, Accept, Reject}
@@ -10,12 +12,12 @@ use Rattle.plan.specs.Plan.{stages, admitted}
 use Rattle.plan.specs.Counts.{units, no_units, add_units}
 use Rattle.plan.specs.Stopping.{state, answer}
 use Rattle.plan.specs.Sample.{are_classes}
-use Rattle.plan.specs.Refusal.{Refusal, first_refusal}
+use Rattle.plan.specs.declared.refusal.Refusal.{Refusal}
+use Rattle.plan.specs.declared.refusal.Refusal.TheVariants.{Plan, Class}
+use Rattle.plan.specs.Refusal.{Row, number, first_refusal}
 use Rattle.plan.specs.Reply.{Reply, granted, refused}
 use Rattle.judge.specs.declared.stop.Stop.{Stop}
 use Rattle.judge.specs.declared.list.Judgement.{Judgement}
-use Rattle.judge.specs.declared.list.Judged.{Judged}
-use Rattle.judge.specs.declared.list.Judged.TheVariants.{Stops, Refused}
 use Rattle.judge.specs.Event.{event_at}
 
 -- ---- where a way stops
@@ -50,10 +52,10 @@ event_of plan full =
 
 -- ---- judge
 
-abbrev pub refusals : List ℕ → List ℕ → List Refusal
+abbrev pub refusals : List ℕ → List ℕ → List Row
 refusals plan list =
-    record { number = 2; when = not (admitted plan) } ∷
-    record { number = 7; when = not (are_classes list) } ∷
+    record { refusal = Plan; when = not (admitted plan) } ∷
+    record { refusal = Class; when = not (are_classes list) } ∷
     []
 
 abbrev pub judgement : List ℕ → List ℕ → Judgement
@@ -65,14 +67,14 @@ judgement plan list = record {
   event = event_of plan (stop_of (Staged Full) plan list);
 }
 
-unfoldable pub judged : List ℕ → List ℕ → Judged
-judged plan list = first_refusal Refused (refusals plan list) (Stops (judgement plan list))
+unfoldable pub judged : List ℕ → List ℕ → Result Judgement Refusal
+judged plan list = first_refusal Err (refusals plan list) (Ok (judgement plan list))
 
 -- ---- 01's numbers of an answer: stop and state of each way and the event, or the refusal's number
 
-abbrev pub judge_reply : Judged → Reply
-judge_reply (Refused n) = refused n
-judge_reply (Stops j) = granted (
+abbrev pub judge_reply : Result Judgement Refusal → Reply
+judge_reply (Err r) = refused (number r)
+judge_reply (Ok j) = granted (
     units j.uncurtailed.counts ∷ state j.uncurtailed.answer ∷
     units j.semi.counts ∷ state j.semi.answer ∷
     units j.full.counts ∷ state j.full.answer ∷

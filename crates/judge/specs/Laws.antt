@@ -1,5 +1,6 @@
 -- What holds of judging a list, for every admitted plan and every list of classes: statements alone, proved in proofs/Laws.antt.
 use Rattle.std.specs.Prelude.{ℕ, ◌≤◌, ◌≡◌, ◌↔◌, ◌≢◌, true, List, length, take, get_or}
+use Rattle.std.specs.declared.result.Result.TheVariants.{Ok}
 use Rattle.plan.specs.declared.stage.Answer.{Answer}
 use Rattle.plan.specs.declared.stage.Answer.TheVariants.{GoOn, Reject}
 use Rattle.plan.specs.declared.ways.StageWay.TheVariants.{Semi, Full}
@@ -10,11 +11,9 @@ use Rattle.plan.specs.Counts.{units, counts}
 use Rattle.plan.specs.Stopping.{answer}
 use Rattle.plan.specs.Sample.{are_classes, AllHave, Rule, Stops}
 use Rattle.plan.specs.Blanks.{blanks_as_marginal}
-use Rattle.plan.specs.Refusal.{RefusedBy}
-use Rattle.plan.specs.Reply.{refused}
+use Rattle.plan.specs.Refusal.{RefusedByNumber}
 use Rattle.judge.specs.declared.stop.Stop.{Stop}
 use Rattle.judge.specs.declared.list.Judgement.{Judgement}
-use Rattle.judge.specs.declared.list.Judged.TheVariants.{Stops as StoppedList}
 use Rattle.judge.specs.Event.{events, how_many}
 use Rattle.judge.specs.Judge.{stop_of, refusals, judgement, judged, judge_reply}
 
@@ -28,12 +27,12 @@ rule_of way plan h = answer way (stages plan) (counts h)
 
 -- demand 1: refused with n exactly when n is the first row that applies, and no row that applies stands before it in the table
 abbrev pub RefusedRightly : List ℕ → List ℕ → Type 0
-RefusedRightly plan list = RefusedBy refused (refusals plan list) (judge_reply (judged plan list))
+RefusedRightly plan list = RefusedByNumber (refusals plan list) (judge_reply (judged plan list))
 
 -- granted exactly when the plan is admitted and each class is one that a unit may have; and then it is this judgement
 abbrev pub GrantedRightly : List ℕ → List ℕ → Type 0
 GrantedRightly plan list = (j : Judgement) →
-    (judged plan list ≡ StoppedList j) ↔ ((admitted plan ≡ true) × (are_classes list ≡ true) × (j ≡ judgement plan list))
+    (judged plan list ≡ Ok j) ↔ ((admitted plan ≡ true) × (are_classes list ≡ true) × (j ≡ judgement plan list))
 
 -- lists that differ only in which of their marginal units are blank are judged alike, or refused alike. Document 02, change 4
 abbrev pub BlanksAsMarginal : List ℕ → List ℕ → List ℕ → Type 0

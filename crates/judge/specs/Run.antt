@@ -1,24 +1,15 @@
 -- What the functions inside judge tell each other: parts of a list, and stops that follow from full's.
-use Rattle.std.specs.Prelude.{ℕ, ◌+◌, ◌-◌, ◌≤◌, ◌<◌, ◌≡◌, Bool, true, false, cond, List, length, take}
+use Rattle.std.specs.Prelude.{ℕ, ◌-◌, ◌≤◌, ◌<◌, ◌≡◌, false, cond, List, length, take}
 use Rattle.plan.specs.declared.counts.Counts.{Counts}
 use Rattle.plan.specs.declared.stage.Answer.{Answer}
 use Rattle.plan.specs.declared.stage.Answer.TheVariants.{GoOn, Accept, Reject}
 use Rattle.plan.specs.declared.ways.Way.{Way}
 use Rattle.plan.specs.Plan.{stages}
 use Rattle.plan.specs.Counts.{units, counts}
-use Rattle.plan.specs.Stopping.{answer}
+use Rattle.plan.specs.Stopping.{goes_on, answer}
 use Rattle.judge.specs.declared.stop.Stop.{Stop}
 use Rattle.judge.specs.Judge.{stop_of}
 use Rattle.judge.specs.Laws.{rule_of}
-
--- the units of both
-abbrev pub both_counts : Counts → Counts → Counts
-both_counts c d = record { good = c.good + d.good; marginal = c.marginal + d.marginal; bad = c.bad + d.bad }
-
-abbrev pub goes_on : Answer → Bool
-goes_on GoOn = true
-goes_on Accept = false
-goes_on Reject = false
 
 -- up to n units of the list, a way that goes on has gone on all along
 abbrev pub Steady : Way → List ℕ → List ℕ → ℕ → Type 0

@@ -2,10 +2,11 @@
 // estimates".
 #![tactic(auto)]
 
+mod case;
 mod event;
 mod list;
 mod run;
 mod stop;
 
-pub use list::{Judged, Judgement, judge};
+pub use list::{Judgement, judge};
 pub use stop::Stop;

@@ -1,7 +1,6 @@
 // The units of a run of classes.
 ghost use Rattle.std.specs.Prelude.{◌≡◌, ◌+◌, ◌≤◌, ◌<◌, length};
 ghost use Rattle.plan.specs.Counts.{units, counts_after, counts};
-ghost use Rattle.judge.specs.Run.{both_counts};
 
 use plan::Counts;
 
@@ -26,27 +25,14 @@ fn count_part(part: &[u8]) -> Counts
 {
     let mut nongood: u8 = 0;
     let mut bad: u8 = 0;
-    let mut i: usize = 0;
-    while i < part.len() {
-        nongood += (part[i] != 0) as u8;
-        bad += (part[i] == 2) as u8;
-        i += 1;
+    for class in part {
+        nongood += (*class != 0) as u8;
+        bad += (*class == 2) as u8;
     }
     Counts {
         good: part.len() as u32 - nongood as u32,
         marginal: (nongood - bad) as u32,
         bad: bad as u32,
-    }
-}
-
-fn both_counts(c: Counts, d: Counts) -> Counts
-    requires { units c + units d ≤ 1000 }
-    ensures { result ≡ both_counts c d }
-{
-    Counts {
-        good: c.good + d.good,
-        marginal: c.marginal + d.marginal,
-        bad: c.bad + d.bad,
     }
 }
 
@@ -56,11 +42,8 @@ pub fn count_run(run: &[u8], before: Counts) -> Counts
     ensures { result ≡ counts_after before run.now }
 {
     let mut c = before;
-    let mut i: usize = 0;
-    while i < run.len() {
-        let end = plan::minimum(i + PART, run.len());
-        c = both_counts(c, count_part(&run[i..end]));
-        i = end;
+    for part in run.chunks(PART) {
+        c = c + count_part(part);
     }
     c
 }

@@ -2,47 +2,52 @@
 // in the order of specs/Known.antt.
 #![tactic(auto)]
 
-mod print;
-
-use chance::BoundsAnswer;
-use judge::Judged;
-use sheet::Estimated;
+use cases::print;
+use chance::Interval;
+use plan::Refusal;
+use sheet::Estimate;
 use std::io;
 
 fn judged(rt: &impl Print, plan: &[u32], list: &[u8]) -> io::Result<()> {
-    match judge::judge(plan, list) {
-        Judged::Stops(j) => print::judgement(rt, j),
-        Judged::Refused(number) => print::refusal(rt, number),
-    }
+    print::reply(rt, judge::judge(plan, list))
 }
 
 // The estimate of lot 7 with classes 1, 2, 2.
+fn lot_estimate(plan: &[u32]) -> Result<Estimate, Refusal> {
+    let mut words = [0; 76];
+    sheet::fresh(&mut words, plan, &[0; 16])?;
+    sheet::open(&mut words, 7)?;
+    for class in [1, 2, 2] {
+        sheet::inspect(&mut words, 7, class)?;
+    }
+    sheet::estimate(&words, 7)
+}
+
 fn estimate(rt: &impl Print, plan: &[u32]) -> io::Result<()> {
-    let mut words = [0u32; 76];
-    let shares = [0u32; 16];
-    sheet::fresh(&mut words, plan, &shares);
-    sheet::open(&mut words, 7);
-    sheet::inspect(&mut words, 7, 1);
-    sheet::inspect(&mut words, 7, 2);
-    sheet::inspect(&mut words, 7, 2);
-    match sheet::estimate(&words, 7) {
-        Estimated::Estimate(e) => print::estimate(rt, e),
-        Estimated::Refused(number) => print::refusal(rt, number),
+    match lot_estimate(plan) {
+        Ok(
+            Estimate {
+                good,
+                marginal,
+                bad,
+                over,
+            },
+        ) => println!(rt; "{good} {marginal} {bad} {over}"),
+        Err(refusal) => print::refusal(rt, refusal),
     }
 }
 
-fn bounds(rt: &impl Print, plan: &[u32], w0: u32, w1: u32, w2: u32) -> io::Result<()> {
-    let mut scratch = [u64::MAX; 2];
-    match chance::chance(plan, w0, w1, w2, &mut scratch) {
-        BoundsAnswer::Pair(b) => print::bounds(rt, b),
-        BoundsAnswer::Refused(number) => print::refusal(rt, number),
+fn bounds(rt: &impl Print, plan: &[u32], [w0, w1, w2]: [u32; 3]) -> io::Result<()> {
+    match chance::chance(plan, w0, w1, w2, &mut [u64::MAX; 2]) {
+        Ok(Interval { low, high }) => println!(rt; "{low} {high}"),
+        Err(refusal) => print::refusal(rt, refusal),
     }
 }
 
 fn main(rt: HostRuntime) -> io::Result<()> {
-    let a = [5u32, 2, 3, 1, 2];
-    let b = [10u32, 0, 3, 0, 3, 1, 5, 6, 5, 6];
-    let one = [1u32, 0, 1, 0, 1];
+    let a = [5, 2, 3, 1, 2];
+    let b = [10, 0, 3, 0, 3, 1, 5, 6, 5, 6];
+    let one = [1, 0, 1, 0, 1];
     judged(&rt, &a, &[0, 0, 0, 0])?;
     judged(&rt, &a, &[0, 0, 0, 1])?;
     judged(&rt, &a, &[0, 0, 0])?;
@@ -51,9 +56,8 @@ fn main(rt: HostRuntime) -> io::Result<()> {
     judged(&rt, &a, &[1, 1, 2])?;
     judged(&rt, &a, &[1, 2, 2])?;
     estimate(&rt, &a)?;
-    judged(&rt, &b, &[0, 0, 0, 0, 0, 0, 0, 0, 0, 0])?;
+    judged(&rt, &b, &[0; 10])?;
     judged(&rt, &b, &[2, 0, 0, 0, 0, 0, 0, 0, 0, 0, 0])?;
-    bounds(&rt, &one, 1, 1, 1)?;
-    bounds(&rt, &one, 1, 0, 1)?;
-    Ok(())
+    bounds(&rt, &one, [1, 1, 1])?;
+    bounds(&rt, &one, [1, 0, 1])
 }

@@ -11,7 +11,8 @@ use lib.ListN.{length}
 use lib.Dec.{eqb}
 use borrow.Author.Tests.{eq-eqb, ne_eqb}
 use Rattle.plan.specs.declared.counts.Counts.{Counts}
-use Rattle.plan.specs.Plan.{Stage, end_below}
+use Rattle.plan.specs.declared.stage.Stage.{Stage}
+use Rattle.plan.specs.Plan.{end_below}
 use Rattle.plan.specs.Counts.{units, no_units, add_units, both, counts}
 use Rattle.plan.specs.declared.stage.Answer.TheVariants.{GoOn}
 use Rattle.plan.specs.Stopping.{earliest}

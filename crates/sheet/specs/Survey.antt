@@ -3,7 +3,8 @@ use Rattle.std.specs.Prelude.{ℕ, zero, suc, ◌+◌, ◌-◌, ◌*◌, ◌≤�
 use Rattle.std.proofs.Math.Option as read_option
 use Rattle.std.proofs.Math.Option.{none, some}
 use Rattle.plan.specs.declared.counts.Counts.{Counts}
-use Rattle.plan.specs.Plan.{Stage, end_below}
+use Rattle.plan.specs.declared.stage.Stage.{Stage}
+use Rattle.plan.specs.Plan.{end_below}
 use Rattle.plan.specs.Counts.{no_units, units, add_units, both, counts}
 use Rattle.plan.specs.Blanks.{one_blank, blanks}
 use Rattle.plan.specs.Stopping.{earliest}

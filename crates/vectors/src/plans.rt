@@ -1,18 +1,16 @@
 // Cases on a plan alone.
-use crate::print::bad_line;
 use cases::print;
+use plan::Refusal;
 use std::io;
 
 // `a W1 W2 ..`: is the plan admitted?
 pub fn admission(rt: &impl Print, text: &[u8]) -> io::Result<()> {
-    let mut list = [0u32; 128];
-    let n = cases::words(text, 1, &mut list);
-    if n > 128 {
-        return bad_line(rt);
-    }
-    if plan::admitted(&list[0..n]) {
-        print::text(rt, b"admitted\n")
+    let Some(plan) = cases::words(text) else {
+        return print::bad_line(rt);
+    };
+    if plan::admitted(plan.as_slice()) {
+        println!(rt; "admitted")
     } else {
-        print::refusal(rt, 2)
+        print::refusal(rt, Refusal::Plan)
     }
 }

@@ -1,9 +1,7 @@
--- The list keeps its length, and `n` is within it. The measure is what is left of the list.
-use Rattle.std.proofs.Common.{length, ◌-◌, ◌≤◌, ◌≡◌}
+-- The list has one class for each byte that is read.
+use Rattle.std.proofs.Common.{◌≤◌}
+use Rattle.arrayvec.specs.ArrayVec.{array_vec_len}
 use Rattle.cases.proofs.classes.Given as goal
 
-abbrev pub invariant-loop-i : goal.invariant-loop-i
-invariant-loop-i l = (length l.list ≡ length l.initial.list) × (l.n ≤ length l.list)
-
-abbrev pub decreases-loop-i : goal.decreases-loop-i
-decreases-loop-i l = length l.list - l.n
+abbrev pub invariant-loop-byte : goal.invariant-loop-byte
+invariant-loop-byte l = array_vec_len l.list ≤ l.byte-index

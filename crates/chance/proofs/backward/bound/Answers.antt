@@ -1,7 +1,6 @@
--- The answers for `chance::bound`; Invariants.antt says what its loop or recursion goes by. Assumes nothing.
+-- The answers for `chance::bound`; Invariants.antt says what its loop goes by. Assumes nothing.
 use Prim.Native.Nat.{◌+◌, ◌-◌}
-use mathlib.Core.Path.{◌≡◌, subst, ◌∙◌}
-use mathlib.Core.Logic.{inr}
+use mathlib.Core.Path.{◌≡◌, subst}
 use native.Mathlib.Omega.{arith}
 use Rattle.plan.proofs.Promise.{shape}
 use Rattle.chance.proofs.States.{inside}
@@ -9,16 +8,16 @@ use Rattle.chance.proofs.InPlace.{cleared_after}
 use Rattle.chance.proofs.Induction.{LayersTo, layers_none, layer_ready, layers_more, layers_all}
 use Rattle.chance.proofs.backward.bound.Goals as goal
 
+pub sample_size-requires : goal.sample_size-requires
+sample_size-requires c = (shape c.args.plan.now c.requires.suits.admitted).thousand_units
+
 pub loop-y-init : goal.loop-y-init
 loop-y-init c =
     (layers_none c.requires.suits (λ i h. c.fill.ensures.done i (omega arith) h) (omega arith), λ g b h m l k n. absurd (omega arith))
 
-pub step_layer-later-requires : goal.step_layer-later-requires
-step_layer-later-requires c =
-    record {
-      ready = layer_ready c.requires.suits c.loop-y.invariant.0 (omega arith) (omega (arith, c.fill.auto.layer, c.requires.room));
-      cleared = λ g b h m. c.loop-y.invariant.1 g b h (omega arith);
-    }
+pub step_layer-later-requires-clause-ready : goal.step_layer-later-requires-clause-ready
+step_layer-later-requires-clause-ready c =
+    layer_ready c.requires.suits c.loop-y.invariant.0 (omega arith) (omega (arith, c.fill.auto.layer, c.requires.room))
 
 pub loop-y-preserved : goal.loop-y-preserved
 loop-y-preserved c =
@@ -40,26 +39,9 @@ bounds-layer-0 c =
       inside s.r1 s.r2 0 0 (omega (arith, suits.reject1, shaped.reject1_from)) (omega (arith, suits.reject2, shaped.reject2_from)),
     )
 
-pub returns : goal.returns
-returns c =
+pub returns-clause-value : goal.returns-clause-value
+returns-clause-value c =
     let a = c.args in
     let l = c.loop-y in
-    let e : l.y ≡ 0 = omega arith in record {
-      value = layers_all c.requires.suits (subst (LayersTo a.plan.now a.s c.fill.new.layer l.layer) e l.invariant.0);
-      beyond = λ i h. l.invariant.0.beyond i h ∙ c.fill.ensures.others i (inr h);
-    }
-
-pub overflow_mul-s : goal.overflow_mul-s
-overflow_mul-s c = omega (arith, c.requires.room)
-
-pub fill-requires : goal.fill-requires
-fill-requires c = c.requires.room
-
-pub sample_size-requires : goal.sample_size-requires
-sample_size-requires c = (shape c.args.plan.now c.requires.suits.admitted).thousand_units
-
-pub overflow_add-y : goal.overflow_add-y
-overflow_add-y c = omega (arith, shape c.args.plan.now c.requires.suits.admitted)
-
-pub shape_of-layer : goal.shape_of-layer
-shape_of-layer c = c.loop-y.invariant.0.same ∙ c.fill.auto.layer
+    let e : l.y ≡ 0 = omega arith in
+    layers_all c.requires.suits (subst (LayersTo a.plan.now a.s c.fill.new.layer l.layer) e l.invariant.0)

@@ -5,6 +5,3 @@ use Rattle.chance.proofs.backward.bound.Given as goal
 
 abbrev pub invariant-loop-y : goal.invariant-loop-y
 invariant-loop-y l = LayersTo l.plan l.s l.initial.layer l.layer l.y × Cleared l.s l.y l.later l.layer
-
-abbrev pub decreases-loop-y : goal.decreases-loop-y
-decreases-loop-y l = l.y

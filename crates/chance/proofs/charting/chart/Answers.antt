@@ -1,14 +1,23 @@
--- `chance::chart` meets its contract: the bounds of a granted chance, each divided by 2^40, or its refusal. The divisor's literal is
+-- `chance::chart` meets its contract: the bounds that are granted, each divided by 2^40, or the refusal. The divisor's literal is
 -- the float 2^40, which `of_bits` computes. Assumes nothing.
-use mathlib.Core.Path.{sym, ap, subst, ◌∙◌}
+use mathlib.Core.Path.{ap}
 use lib.ListN.{length}
 use lib.Ieee.{of_bits}
 use native.Mathlib.Omega.{arith}
+use borrow.Author.Rules.{rules}
+use Rattle.std.specs.declared.result.Result.TheVariants.{Ok}
 use Rattle.plan.specs.Plan.{stages}
-use Rattle.chance.specs.Fraction.{power}
-use Rattle.chance.specs.Reply.{weights_of, refusals, bounds_of, chance_answer, chart_answer, ExactChart, divided_answer, Fits}
-use Rattle.chance.proofs.Replies.{divided_alike, fits, exact_floats, chance_fits}
+use Rattle.chance.specs.Reply.{weights_of, refusals, bounds_of, chance_answer, chart_answer}
+use Rattle.chance.proofs.Replies.{fits, charted, chance_fits}
 use Rattle.chance.proofs.charting.chart.Goals as goal
+
+pub returns-in_err-bounds-clause-value : goal.returns-in_err-bounds-clause-value
+unfolding chance_answer chart_answer
+returns-in_err-bounds-clause-value c =
+    let a = c.args in
+    let w = weights_of a.w0 a.w1 a.w2 in
+    let n = length a.scratch.now in
+    (charted (refusals a.plan.now w n) 40 (bounds_of (stages a.plan.now) w) (chance_fits a.plan.now w n) (omega arith) c.in_err-bounds.ensures.value (search rules)).0
 
 pub fractions-requires : goal.fractions-requires
 unfolding chance_answer
@@ -16,18 +25,20 @@ fractions-requires c =
     let a = c.args in
     let w = weights_of a.w0 a.w1 a.w2 in
     let n = length a.scratch.now in
-    subst Fits (sym c.chance-bounds.ensures.value) (fits (refusals a.plan.now w n) 40 (bounds_of (stages a.plan.now) w) (chance_fits a.plan.now w n))
+    fits (refusals a.plan.now w n) 40 (bounds_of (stages a.plan.now) w) (chance_fits a.plan.now w n) c.in_ok-bounds.ensures.value
 
-pub returns : goal.returns
+pub returns-clause-value : goal.returns-clause-value
 unfolding chance_answer chart_answer of_bits
-returns c =
+returns-clause-value c =
     let a = c.args in
     let w = weights_of a.w0 a.w1 a.w2 in
     let n = length a.scratch.now in
-    let b = bounds_of (stages a.plan.now) w in
-    let e = c.fractions.ensures ∙ ap (divided_answer (power 40)) c.chance-bounds.ensures.value ∙ divided_alike (refusals a.plan.now w n) 40 b in
-    record {
-      value = e;
-      exact_chart = subst (ExactChart a.plan.now w) (sym e) (exact_floats (refusals a.plan.now w n) 40 b (chance_fits a.plan.now w n) (omega arith));
-      keeps = c.chance-bounds.ensures.keeps;
-    }
+    (charted (refusals a.plan.now w n) 40 (bounds_of (stages a.plan.now) w) (chance_fits a.plan.now w n) (omega arith) c.in_ok-bounds.ensures.value (ap Ok c.fractions.ensures)).0
+
+pub returns-clause-exact_chart : goal.returns-clause-exact_chart
+unfolding chance_answer chart_answer of_bits
+returns-clause-exact_chart c =
+    let a = c.args in
+    let w = weights_of a.w0 a.w1 a.w2 in
+    let n = length a.scratch.now in
+    (charted (refusals a.plan.now w n) 40 (bounds_of (stages a.plan.now) w) (chance_fits a.plan.now w n) (omega arith) c.in_ok-bounds.ensures.value (ap Ok c.fractions.ensures)).1

@@ -1,16 +1,25 @@
 -- `chance::units_chart` meets its contract: the bounds that are granted, each divided by 2^30, or the refusal. The divisor's literal is
 -- the float 2^30, which `of_bits` computes. Assumes nothing.
-use mathlib.Core.Path.{sym, ap, subst, ◌∙◌}
+use mathlib.Core.Path.{ap}
 use lib.ListN.{length}
 use lib.Ieee.{of_bits}
 use native.Mathlib.Omega.{arith}
+use borrow.Author.Rules.{rules}
+use Rattle.std.specs.declared.result.Result.TheVariants.{Ok}
 use Rattle.plan.specs.Plan.{stages}
-use Rattle.chance.specs.Fraction.{power}
-use Rattle.chance.specs.Reply.{weights_of, refusals, divided_answer, Fits}
-use Rattle.chance.specs.Units.{units_bounds, units_answer, units_chart_answer, ExactUnitsChart}
-use Rattle.chance.proofs.Replies.{divided_alike, fits, exact_floats}
+use Rattle.chance.specs.Reply.{weights_of, refusals}
+use Rattle.chance.specs.Units.{units_bounds, units_answer, units_chart_answer}
+use Rattle.chance.proofs.Replies.{fits, charted}
 use Rattle.chance.proofs.UnitsReplies.{units_fit}
 use Rattle.chance.proofs.charting.units_chart.Goals as goal
+
+pub returns-in_err-bounds-clause-value : goal.returns-in_err-bounds-clause-value
+unfolding units_answer units_chart_answer
+returns-in_err-bounds-clause-value c =
+    let a = c.args in
+    let w = weights_of a.w0 a.w1 a.w2 in
+    let n = length a.scratch.now in
+    (charted (refusals a.plan.now w n) 30 (units_bounds (stages a.plan.now) w) (units_fit a.plan.now w n) (omega arith) c.in_err-bounds.ensures.value (search rules)).0
 
 pub fractions-requires : goal.fractions-requires
 unfolding units_answer
@@ -18,18 +27,20 @@ fractions-requires c =
     let a = c.args in
     let w = weights_of a.w0 a.w1 a.w2 in
     let n = length a.scratch.now in
-    subst Fits (sym c.units-bounds.ensures.value) (fits (refusals a.plan.now w n) 30 (units_bounds (stages a.plan.now) w) (units_fit a.plan.now w n))
+    fits (refusals a.plan.now w n) 30 (units_bounds (stages a.plan.now) w) (units_fit a.plan.now w n) c.in_ok-bounds.ensures.value
 
-pub returns : goal.returns
+pub returns-clause-value : goal.returns-clause-value
 unfolding units_answer units_chart_answer of_bits
-returns c =
+returns-clause-value c =
     let a = c.args in
     let w = weights_of a.w0 a.w1 a.w2 in
     let n = length a.scratch.now in
-    let b = units_bounds (stages a.plan.now) w in
-    let e = c.fractions.ensures ∙ ap (divided_answer (power 30)) c.units-bounds.ensures.value ∙ divided_alike (refusals a.plan.now w n) 30 b in
-    record {
-      value = e;
-      exact_units_chart = subst (ExactUnitsChart a.plan.now w) (sym e) (exact_floats (refusals a.plan.now w n) 30 b (units_fit a.plan.now w n) (omega arith));
-      keeps = c.units-bounds.ensures.keeps;
-    }
+    (charted (refusals a.plan.now w n) 30 (units_bounds (stages a.plan.now) w) (units_fit a.plan.now w n) (omega arith) c.in_ok-bounds.ensures.value (ap Ok c.fractions.ensures)).0
+
+pub returns-clause-exact_units_chart : goal.returns-clause-exact_units_chart
+unfolding units_answer units_chart_answer of_bits
+returns-clause-exact_units_chart c =
+    let a = c.args in
+    let w = weights_of a.w0 a.w1 a.w2 in
+    let n = length a.scratch.now in
+    (charted (refusals a.plan.now w n) 30 (units_bounds (stages a.plan.now) w) (units_fit a.plan.now w n) (omega arith) c.in_ok-bounds.ensures.value (ap Ok c.fractions.ensures)).1
