@@ -1,4 +1,6 @@
-// The answers that are no numbers, a line each.
+// The answers that the programs share, a line each.
+use plan::Refusal;
+use std::fmt::Display;
 use std::io;
 
 // The answer to a line that is no case.
@@ -6,7 +8,15 @@ pub fn bad_line(rt: &impl Print) -> io::Result<()> {
     println!(rt; "bad line")
 }
 
-// A refusal's number.
-pub fn refusal(rt: &impl Print, number: u32) -> io::Result<()> {
-    println!(rt; "no {number}")
+// The number of a refusal.
+pub fn refusal(rt: &impl Print, refusal: Refusal) -> io::Result<()> {
+    println!(rt; "no {refusal}")
+}
+
+// What a granted call gives, or its refusal.
+pub fn reply<T: Display + Drop>(rt: &impl Print, reply: Result<T, Refusal>) -> io::Result<()> {
+    match reply {
+        Ok(granted) => println!(rt; "{granted}"),
+        Err(number) => refusal(rt, number),
+    }
 }

@@ -1,16 +1,16 @@
 -- One turn along a list of classes, how far a stop may lie, and the greatest class. Assumes nothing.
-use Prim.Native.Nat.{ℕ, ◌+◌, ◌≤◌, ◌<◌}
+use Prim.Native.Nat.{ℕ, ◌+◌, ◌≤◌, ◌<◌, max}
 use native.Mathlib.Omega.{arith}
 use mathlib.Core.Path.{◌≡◌, refl, ap, sym, ◌∙◌}
 use mathlib.Core.Logic.{◌≢◌}
-use native.Mathlib.Decide.{dec_lt}
+use native.Mathlib.Decide.{dec_lt, dec_le}
 use native.Mathlib.Numerals.{add-one}
-use mathlib.Core.Bool.{Bool, true, false, ◌&&◌}
+use mathlib.Core.Bool.{true, ◌&&◌, and-false, and_assoc}
 use mathlib.Core.List.{List, [], ◌∷◌}
 use lib.ListN.{length, get_or, take, drop}
 use lib.Seq.{take-suc}
 use lib.Dec.{leb}
-use borrow.Author.Tests.{leb-true, le-leb}
+use borrow.Author.Tests.{le-leb, lt-leb}
 use Rattle.plan.specs.declared.counts.Counts.{Counts}
 use Rattle.plan.specs.declared.stage.Answer.{Answer}
 use Rattle.plan.specs.declared.stage.Answer.TheVariants.{GoOn, Accept, Reject}
@@ -51,25 +51,16 @@ stop_within w e way c (x ∷ xs) = go (answer way (stages w) (add_units x 1 c)) 
 
 -- ---- the greatest class so far, and the classes from i on
 
--- what follows from another test adds nothing to it
-first_adds_none : (a b r : Bool) → (b ≡ true → a ≡ true) → (a && (b && r)) ≡ (b && r)
-first_adds_none true b r f = refl
-first_adds_none false true r f = cc (f refl)
-first_adds_none false false r f = refl
+leb-max : (a b n : ℕ) → leb (max a b) n ≡ (leb a n && leb b n)
+leb-max a b n = go (dec_le a n) (dec_le b n)
+  where
+    go : Dec (a ≤ n) → Dec (b ≤ n) → leb (max a b) n ≡ (leb a n && leb b n)
+    go (yes p) (yes q) = rw (le-leb a n p, le-leb b n q) (le-leb (max a b) n (omega arith))
+    go (no p) q = rw (lt-leb a n (omega arith)) (lt-leb (max a b) n (omega arith))
+    go (yes p) (no q) = rw (lt-leb b n (omega arith), and-false) (lt-leb (max a b) n (omega arith))
 
-second_adds_none : (a b r : Bool) → (a ≡ true → b ≡ true) → (a && (b && r)) ≡ (a && r)
-second_adds_none true true r f = refl
-second_adds_none true false r f = cc (f refl)
-second_adds_none false b r f = refl
-
-module _ (xs : List ℕ) (i m : ℕ) (h : i < length xs) where
-  next_tested : are_classes (drop i xs) ≡ (leb (get_or xs i 0) highest_class && are_classes (drop (i + 1) xs))
-  next_tested = ap are_classes (drop_next xs i h) ∙ classing.more_tested (get_or xs i 0) (drop (i + 1) xs)
-
-  pub class_greater : m < get_or xs i 0 → (leb m highest_class && are_classes (drop i xs)) ≡ (leb (get_or xs i 0) highest_class && are_classes (drop (i + 1) xs))
-  class_greater l =
-      rw next_tested (first_adds_none (leb m highest_class) (leb (get_or xs i 0) highest_class) _ (λ e. le-leb m highest_class (omega (arith, leb-true (get_or xs i 0) highest_class e))))
-
-  pub class_no_greater : get_or xs i 0 ≤ m → (leb m highest_class && are_classes (drop i xs)) ≡ (leb m highest_class && are_classes (drop (i + 1) xs))
-  class_no_greater l =
-      rw next_tested (second_adds_none (leb m highest_class) (leb (get_or xs i 0) highest_class) _ (λ e. le-leb (get_or xs i 0) highest_class (omega (arith, leb-true m highest_class e))))
+pub class_greatest : (xs : List ℕ) (i m : ℕ) → i < length xs
+    → (leb m highest_class && are_classes (drop i xs)) ≡ (leb (max m (get_or xs i 0)) highest_class && are_classes (drop (i + 1) xs))
+class_greatest xs i m h =
+    rw (drop_next xs i h, classing.more_tested (get_or xs i 0) (drop (i + 1) xs), leb-max m (get_or xs i 0) highest_class)
+    (sym (and_assoc (leb m highest_class) (leb (get_or xs i 0) highest_class) (are_classes (drop (i + 1) xs))))

@@ -3,8 +3,8 @@ use Prim.Native.Nat.{ℕ, zero, suc, ◌+◌, ◌-◌, ◌≤◌, ◌<◌}
 use native.Mathlib.Omega.{arith}
 use mathlib.Core.Path.{◌≡◌, ap, sym, ◌∙◌}
 use mathlib.Core.Bool.{not}
-use mathlib.Core.List.{List, [], ◌∷◌}
-use lib.ListN.{length, get_or, take, drop, length-drop}
+use mathlib.Core.List.{List, [], ◌∷◌, ◌++◌}
+use lib.ListN.{length, get_or, take, drop, length-drop, length-append}
 use lib.Seq.{take-add, length-take-le}
 use lib.Dec.{eqb}
 use mir.Val.{bool_byte}
@@ -100,3 +100,19 @@ both_are c xs =
     let b = (counting.after_more c xs).units in
     let d = (counting.after_more no_units xs).units in
     rw (counting.counted xs) (same_counts (both c (counts_after no_units xs)) (counts_after c xs) (omega arith) (omega arith) (omega arith))
+
+-- the counts e with a part x of a run, of which `rest` is left
+pub record PartCounted (c : Counts) (x rest : List ℕ) (t e : Counts) : Type 0 where
+  pub few : units e + length rest ≤ 1000
+  pub counted : counts_after e rest ≡ t
+
+pub part_counted : (c : Counts) (left x rest : List ℕ) (t d e : Counts) → units c + length left ≤ 1000 → counts_after c left ≡ t → left ≡ x ++ rest
+    → d ≡ counts x → e ≡ both c d → PartCounted c x rest t e
+part_counted c left x rest t d e few counted parts p q =
+    let e_is : e ≡ counts_after c x = q ∙ ap (both c) p ∙ both_are c x in
+    let u = ap units e_is ∙ (counting.after_more c x).units in
+    let n = ap length parts ∙ length-append x rest in
+    record {
+      few = omega arith;
+      counted = ap (λ (b : Counts). counts_after b rest) e_is ∙ sym (counting.after_append c x rest) ∙ ap (counts_after c) (sym parts) ∙ counted;
+    }

@@ -1,12 +1,12 @@
 // The event at full's stop of a plan with one stage. Document 01, "Lists, events, estimates"; 003, 5.5.1.
-ghost use Rattle.std.specs.Prelude.{◌≡◌, true, ◌≤◌};
+ghost use Rattle.std.specs.Prelude.{◌≡◌, ◌≤◌};
 ghost use Rattle.plan.specs.Counts.{units};
-ghost use Rattle.plan.specs.Plan.{admitted};
 ghost use Rattle.judge.specs.Event.{event_at};
 ghost use Rattle.judge.specs.Judge.{event_of};
 
+use crate::case::Case;
 use crate::stop::Stop;
-use plan::{Answer, Counts};
+use plan::Counts;
 
 // The event with so many units, by the stage's size and rejection numbers; 0 if there is none.
 fn event_at(n: u32, r1: u32, r2: u32, c: Counts) -> u32
@@ -39,19 +39,16 @@ fn event_at(n: u32, r1: u32, r2: u32, c: Counts) -> u32
     0
 }
 
-// The event at full's stop; 0 with several stages or no stop.
-pub fn event_of(plan: &[u32], full: Stop) -> u32
-    requires { (admitted plan.now ≡ true) × (units full.counts ≤ 1000) }
-    ensures { result ≡ event_of plan.now full }
-{
-    if plan.len() != 5 {
-        return 0;
-    }
-    let answer = full.answer;
-    let counts = full.counts;
-    match answer {
-        Answer::GoOn => 0,
-        Answer::Accept => event_at(plan[0], plan[2], plan[4], counts),
-        Answer::Reject => event_at(plan[0], plan[2], plan[4], counts),
+impl Case<'_> {
+    // The event at full's stop; 0 with several stages or no stop.
+    pub fn event_of(&self, full: Stop) -> u32
+        requires { units full.counts ≤ 1000 }
+        ensures { result ≡ event_of self.now.plan.now full }
+    {
+        let plan = self.plan;
+        if plan.len() != 5 || full.answer.goes_on() {
+            return 0;
+        }
+        event_at(plan[0], plan[2], plan[4], full.counts)
     }
 }

@@ -2,6 +2,7 @@
 // estimates".
 #![tactic(auto)]
 
+mod case;
 mod event;
 mod list;
 mod run;

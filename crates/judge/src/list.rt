@@ -1,10 +1,9 @@
 // A list of classes judged four ways.
 ghost use Rattle.std.specs.Prelude.{◌≡◌};
-ghost use Rattle.plan.specs.Sample.{are_classes};
 ghost use Rattle.judge.specs.Judge.{judged};
 
-use crate::event::event_of;
-use crate::stop::{Stop, before_full_stop, earliest_stop, semi_stop, stop_after, uncurtailed_stop};
+use crate::case::Case;
+use crate::stop::{Stop, semi_stop};
 use plan::{Refusal, StageWay, Way};
 use std::fmt;
 
@@ -32,39 +31,18 @@ impl fmt::Display for Judgement {
     }
 }
 
-// Is every class of the list one that a unit may have? The greatest decides, because a loop that does
-// not return is compiled to vector code.
-fn are_classes(list: &[u8]) -> bool
-    ensures { result ≡ are_classes list.now }
-{
-    let mut greatest: u8 = 0;
-    let mut i: usize = 0;
-    while i < list.len() {
-        if greatest < list[i] {
-            greatest = list[i];
-        }
-        i += 1;
-    }
-    greatest <= plan::HIGHEST_CLASS as u8
-}
-
 pub fn judge(plan: &[u32], list: &[u8]) -> Result<Judgement, Refusal>
     ensures { result ≡ judged plan.now list.now }
 {
-    if !plan::admitted(plan) {
-        return Err(Refusal::Plan);
-    }
-    if !are_classes(list) {
-        return Err(Refusal::Class);
-    }
-    let before = before_full_stop(plan, list);
-    let full = stop_after(plan, Way::Staged(StageWay::Full), list, before);
-    let uncurtailed = uncurtailed_stop(plan, list, full);
+    let case = Case::new(plan, list)?;
+    let before = case.before_full_stop();
+    let full = case.stop_after(Way::Staged(StageWay::Full), before);
+    let uncurtailed = case.uncurtailed_stop(full);
     Ok(Judgement {
         uncurtailed,
         semi: semi_stop(full, uncurtailed),
         full,
-        earliest: earliest_stop(plan, list, full, before),
-        event: event_of(plan, full),
+        earliest: case.earliest_stop(full, before),
+        event: case.event_of(full),
     })
 }

@@ -25,11 +25,9 @@ fn count_part(part: &[u8]) -> Counts
 {
     let mut nongood: u8 = 0;
     let mut bad: u8 = 0;
-    let mut i: usize = 0;
-    while i < part.len() {
-        nongood += (part[i] != 0) as u8;
-        bad += (part[i] == 2) as u8;
-        i += 1;
+    for class in part {
+        nongood += (*class != 0) as u8;
+        bad += (*class == 2) as u8;
     }
     Counts {
         good: part.len() as u32 - nongood as u32,
@@ -44,11 +42,8 @@ pub fn count_run(run: &[u8], before: Counts) -> Counts
     ensures { result ≡ counts_after before run.now }
 {
     let mut c = before;
-    let mut i: usize = 0;
-    while i < run.len() {
-        let end = (i + PART).min(run.len());
-        c = c + count_part(&run[i..end]);
-        i = end;
+    for part in run.chunks(PART) {
+        c = c + count_part(part);
     }
     c
 }

@@ -1,13 +1,12 @@
 // Where the four ways stop along a list of classes. One way is searched, full, and the others follow from
 // it.
-ghost use Rattle.std.specs.Prelude.{◌≡◌, true};
+ghost use Rattle.std.specs.Prelude.{◌≡◌};
 ghost use Rattle.plan.specs.declared.ways.StageWay.TheVariants.{Uncurtailed, Full};
 ghost use Rattle.plan.specs.declared.ways.Way.TheVariants.{Staged, Earliest};
-ghost use Rattle.plan.specs.Plan.{admitted};
-ghost use Rattle.plan.specs.Sample.{are_classes};
 ghost use Rattle.judge.specs.Judge.{no_stop, stop_of};
 ghost use Rattle.judge.specs.Run.{Between, BeforeStop, semi_stop};
 
+use crate::case::Case;
 use crate::run::{count_run, half};
 use plan::{Answer, Counts, StageWay, Way};
 use std::fmt;
@@ -37,111 +36,110 @@ fn no_stop() -> Stop
     }
 }
 
-// The units before the stop of a way that goes on after the units `from` of the list and not after `end`
-// classes. Where it goes on it has gone on all along, so it is asked in the middle.
-fn before_stop(plan: &[u32], way: Way, list: &[u8], from: Counts, end: usize) -> Counts
-    requires { (admitted plan.now ≡ true) × Between way plan.now list.now from end }
-    ensures { BeforeStop way plan.now list.now result }
-{
-    let mut c = from;
-    let mut low = from.units() as usize;
-    let mut high = end;
-    while 1 < high - low {
-        let middle = low + half(high - low);
-        let d = count_run(&list[low..middle], c);
-        if plan::answer(plan, way, d).goes_on() {
-            c = d;
-            low = middle;
-        } else {
-            high = middle;
-        }
-    }
-    c
-}
-
-// The units before full's stop. Full is asked at the end of each stage, and among a stage's classes where
-// it stops there. It stops by the end of the last stage, so no more are read.
-pub fn before_full_stop(plan: &[u32], list: &[u8]) -> Counts
-    requires { admitted plan.now ≡ true }
-    ensures { BeforeStop (Staged Full) plan.now list.now result }
-{
-    let way = Way::Staged(StageWay::Full);
-    let mut c = Counts::none();
-    let mut i: usize = 0;
-    while i < list.len() {
-        let end = (plan::end_from(plan, 0, i as u32 + 1) as usize).min(list.len());
-        let after = count_run(&list[i..end], c);
-        if !plan::answer(plan, way, after).goes_on() {
-            return before_stop(plan, way, list, c, end);
-        }
-        c = after;
-        i = end;
-    }
-    c
-}
-
-// The stop of a way by the units before it.
-pub fn stop_after(plan: &[u32], way: Way, list: &[u8], before: Counts) -> Stop
-    requires { (admitted plan.now ≡ true) × BeforeStop way plan.now list.now before }
-    ensures { result ≡ stop_of way plan.now list.now }
-{
-    let i = before.units() as usize;
-    if list.len() <= i {
-        return no_stop();
-    }
-    let c = before.with(list[i] as u32, 1);
-    Stop {
-        answer: plan::answer(plan, way, c),
-        counts: c,
-    }
-}
-
-// Uncurtailed stops at the end of the stage in which full stops, if the list reaches it.
-pub fn uncurtailed_stop(plan: &[u32], list: &[u8], full: Stop) -> Stop
-    requires { (admitted plan.now ≡ true) × (full ≡ stop_of (Staged Full) plan.now list.now) }
-    ensures { result ≡ stop_of (Staged Uncurtailed) plan.now list.now }
-{
-    if full.answer.goes_on() {
-        return no_stop();
-    }
-    let from = full.counts.units();
-    let end = plan::end_from(plan, 0, from) as usize;
-    if list.len() < end {
-        return no_stop();
-    }
-    let c = count_run(&list[from as usize..end], full.counts);
-    Stop {
-        answer: plan::answer(plan, Way::Staged(StageWay::Uncurtailed), c),
-        counts: c,
-    }
-}
-
 // Semi rejects where full does, and else stops where uncurtailed does.
 pub fn semi_stop(full: Stop, uncurtailed: Stop) -> Stop
     ensures { result ≡ semi_stop full uncurtailed }
 {
-    let answer = full.answer;
-    match answer {
+    match full.answer {
         Answer::Reject => full,
-        Answer::Accept => uncurtailed,
-        Answer::GoOn => uncurtailed,
+        Answer::Accept | Answer::GoOn => uncurtailed,
     }
 }
 
-// Earliest stops where full does, with one stage always, or accepts sooner. It does so if the units before
-// full's stop have fewer bad ones than its limit.
-pub fn earliest_stop(plan: &[u32], list: &[u8], full: Stop, before: Counts) -> Stop
-    requires { (admitted plan.now ≡ true) × (are_classes list.now ≡ true) × (full ≡ stop_of (Staged Full) plan.now list.now) × BeforeStop (Staged Full) plan.now list.now before }
-    ensures { result ≡ stop_of Earliest plan.now list.now }
-{
-    if plan.len() == 5 {
-        return full;
+impl Case<'_> {
+    // The units before the stop of a way that goes on after the units `from` of the list and not after `end`
+    // classes. Where it goes on it has gone on all along, so it is asked in the middle.
+    fn before_stop(&self, way: Way, from: Counts, end: usize) -> Counts
+        requires { Between way self.now.plan.now self.now.list.now from end }
+        ensures { BeforeStop way self.now.plan.now self.now.list.now result }
+    {
+        let mut c = from;
+        let mut low = from.units() as usize;
+        let mut high = end;
+        while 1 < high - low {
+            let middle = low + half(high - low);
+            let d = count_run(&self.list[low..middle], c);
+            if plan::answer(self.plan, way, d).goes_on() {
+                c = d;
+                low = middle;
+            } else {
+                high = middle;
+            }
+        }
+        c
     }
-    let end = before.units() as usize;
-    let nongood = (before.marginal + before.bad) as usize;
-    if plan::accept_limit(plan, 0, end, nongood) <= before.bad as usize {
-        return full;
+
+    // The units before full's stop. Full is asked at the end of each stage, and among a stage's classes where
+    // it stops there. It stops by the end of the last stage, so no more are read.
+    pub fn before_full_stop(&self) -> Counts
+        ensures { BeforeStop (Staged Full) self.now.plan.now self.now.list.now result }
+    {
+        let way = Way::Staged(StageWay::Full);
+        let mut c = Counts::none();
+        let mut i: usize = 0;
+        while i < self.list.len() {
+            let end = (plan::end_from(self.plan, 0, i as u32 + 1) as usize).min(self.list.len());
+            let after = count_run(&self.list[i..end], c);
+            if !plan::answer(self.plan, way, after).goes_on() {
+                return self.before_stop(way, c, end);
+            }
+            c = after;
+            i = end;
+        }
+        c
     }
-    let sooner = before_stop(plan, Way::Earliest, list, Counts::none(), end);
-    stop_after(plan, Way::Earliest, list, sooner)
+
+    // The stop of a way by the units before it.
+    pub fn stop_after(&self, way: Way, before: Counts) -> Stop
+        requires { BeforeStop way self.now.plan.now self.now.list.now before }
+        ensures { result ≡ stop_of way self.now.plan.now self.now.list.now }
+    {
+        let i = before.units() as usize;
+        if self.list.len() <= i {
+            return no_stop();
+        }
+        let c = before.with(self.list[i] as u32, 1);
+        Stop {
+            answer: plan::answer(self.plan, way, c),
+            counts: c,
+        }
+    }
+
+    // Uncurtailed stops at the end of the stage in which full stops, if the list reaches it.
+    pub fn uncurtailed_stop(&self, full: Stop) -> Stop
+        requires { full ≡ stop_of (Staged Full) self.now.plan.now self.now.list.now }
+        ensures { result ≡ stop_of (Staged Uncurtailed) self.now.plan.now self.now.list.now }
+    {
+        if full.answer.goes_on() {
+            return no_stop();
+        }
+        let from = full.counts.units();
+        let end = plan::end_from(self.plan, 0, from) as usize;
+        if self.list.len() < end {
+            return no_stop();
+        }
+        let c = count_run(&self.list[from as usize..end], full.counts);
+        Stop {
+            answer: plan::answer(self.plan, Way::Staged(StageWay::Uncurtailed), c),
+            counts: c,
+        }
+    }
+
+    // Earliest stops where full does, with one stage always, or accepts sooner. It does so if the units before
+    // full's stop have fewer bad ones than its limit.
+    pub fn earliest_stop(&self, full: Stop, before: Counts) -> Stop
+        requires { (full ≡ stop_of (Staged Full) self.now.plan.now self.now.list.now) × BeforeStop (Staged Full) self.now.plan.now self.now.list.now before }
+        ensures { result ≡ stop_of Earliest self.now.plan.now self.now.list.now }
+    {
+        if self.plan.len() == 5 {
+            return full;
+        }
+        let end = before.units() as usize;
+        let nongood = (before.marginal + before.bad) as usize;
+        if plan::accept_limit(self.plan, 0, end, nongood) <= before.bad as usize {
+            return full;
+        }
+        let sooner = self.before_stop(Way::Earliest, Counts::none(), end);
+        self.stop_after(Way::Earliest, sooner)
+    }
 }

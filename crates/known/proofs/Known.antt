@@ -1,5 +1,5 @@
 -- The starred rows and the plan with a marked stage, computed. Assumes nothing. The one place that opens the definitions of other crates.
-use mathlib.Core.Path.{◌≡◌, refl}
+use mathlib.Core.Path.{refl}
 use Rattle.plan.specs.Plan.{stages, total, marked, ahead, numbered, each, never_falls, last_step_rises, apart, below_ends, last, last_reject1, last_reject2, row_rules, numbered_rules, marked_rules, rules, admitted}
 use Rattle.plan.specs.Counts.{add_units, counts_after, counts}
 use Rattle.plan.specs.Stopping.{or_else, rejects, accepts, decide, at_end, uncurtailed_at, semi_at, full_at, current, at_stage, staged, first_answer, at_filled, completed, only_reject, settled, earliest, answer}

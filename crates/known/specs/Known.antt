@@ -5,7 +5,6 @@ use Rattle.plan.specs.Plan.{stages, not_permitted}
 use Rattle.plan.specs.Reply.{granted}
 use Rattle.judge.specs.Judge.{judged, judge_reply}
 use Rattle.chance.specs.Reply.{weights_of, bounds_reply, chance_answer}
-use Rattle.sheetmodel.specs.declared.reply.Estimate.{Estimate}
 use Rattle.sheetmodel.specs.Estimate.{estimate_of}
 
 -- that of the program

@@ -3,47 +3,44 @@
 #![tactic(auto)]
 
 use cases::print;
-use chance::{Bounds, BoundsAnswer};
-use judge::Judged;
-use sheet::{Estimate, Estimated};
+use chance::Interval;
+use plan::Refusal;
+use sheet::Estimate;
 use std::io;
 
 fn judged(rt: &impl Print, plan: &[u32], list: &[u8]) -> io::Result<()> {
-    match judge::judge(plan, list) {
-        Judged::Stops(judgement) => println!(rt; "{judgement}"),
-        Judged::Refused(number) => print::refusal(rt, number),
-    }
+    print::reply(rt, judge::judge(plan, list))
 }
 
 // The estimate of lot 7 with classes 1, 2, 2.
-fn estimate(rt: &impl Print, plan: &[u32]) -> io::Result<()> {
+fn lot_estimate(plan: &[u32]) -> Result<Estimate, Refusal> {
     let mut words = [0; 76];
-    sheet::fresh(&mut words, plan, &[0; 16]);
-    sheet::open(&mut words, 7);
+    sheet::fresh(&mut words, plan, &[0; 16])?;
+    sheet::open(&mut words, 7)?;
     for class in [1, 2, 2] {
-        sheet::inspect(&mut words, 7, class);
+        sheet::inspect(&mut words, 7, class)?;
     }
-    match sheet::estimate(&words, 7) {
-        Estimated::Estimate(estimate) => {
-            let Estimate {
+    sheet::estimate(&words, 7)
+}
+
+fn estimate(rt: &impl Print, plan: &[u32]) -> io::Result<()> {
+    match lot_estimate(plan) {
+        Ok(
+            Estimate {
                 good,
                 marginal,
                 bad,
                 over,
-            } = estimate;
-            println!(rt; "{good} {marginal} {bad} {over}")
-        }
-        Estimated::Refused(number) => print::refusal(rt, number),
+            },
+        ) => println!(rt; "{good} {marginal} {bad} {over}"),
+        Err(refusal) => print::refusal(rt, refusal),
     }
 }
 
 fn bounds(rt: &impl Print, plan: &[u32], [w0, w1, w2]: [u32; 3]) -> io::Result<()> {
     match chance::chance(plan, w0, w1, w2, &mut [u64::MAX; 2]) {
-        BoundsAnswer::Pair(bounds) => {
-            let Bounds { low, high } = bounds;
-            println!(rt; "{low} {high}")
-        }
-        BoundsAnswer::Refused(number) => print::refusal(rt, number),
+        Ok(Interval { low, high }) => println!(rt; "{low} {high}"),
+        Err(refusal) => print::refusal(rt, refusal),
     }
 }
 

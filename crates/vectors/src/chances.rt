@@ -1,29 +1,28 @@
 // Cases on the chance of acceptance and on the expected number of units: three weights, or the numbers of units of a lot
 // by class, the number of words of scratch, and the plan.
 ghost use Rattle.std.specs.Prelude.{ℕ};
-ghost use Rattle.chance.specs.declared.answers.Bounds.{Bounds};
+ghost use Rattle.chance.specs.Bounds.{Bounds};
 ghost use Rattle.chance.specs.Reply.{ExactFloats};
 
 use cases::print;
-use chance::{Bounds, BoundsAnswer, ChartAnswer};
+use chance::{Bounds, Chart, Interval};
+use plan::Refusal;
 use std::io;
 
 // The floats of a chart, as their bit patterns.
-pub fn patterns(answer: ChartAnswer) -> BoundsAnswer
-    requires { (k : ℕ) × (b : Bounds) × ExactFloats k b answer }
+pub fn patterns(chart: Result<Chart, Refusal>) -> Result<Bounds, Refusal>
+    requires { (k : ℕ) × (b : Bounds) × ExactFloats k b chart }
 {
-    match answer {
-        ChartAnswer::Pair(chart) => BoundsAnswer::Pair(Bounds {
-            low: chart.low.to_bits(),
-            high: chart.high.to_bits(),
-        }),
-        ChartAnswer::Refused(number) => BoundsAnswer::Refused(number),
-    }
+    let Interval { low, high } = chart?;
+    Ok(Interval {
+        low: low.to_bits(),
+        high: high.to_bits(),
+    })
 }
 
 // `KIND W0 W1 W2 N P1 P2 ..`, or with `l` GOOD, MARGINAL and BAD for the weights: low and high by the kind's call. No
 // word of the N of scratch is 0 before the call, since no call may count on that.
-pub fn answer<F: Fn(&[u32], [u32; 3], &mut [u64]) -> BoundsAnswer>(
+pub fn answer<F: Fn(&[u32], [u32; 3], &mut [u64]) -> Result<Bounds, Refusal>>(
     rt: &impl Print,
     text: &[u8],
     call: F,
@@ -41,10 +40,7 @@ pub fn answer<F: Fn(&[u32], [u32; 3], &mut [u64]) -> BoundsAnswer>(
         return print::bad_line(rt);
     };
     match call(plan, [*w0, *w1, *w2], scratch) {
-        BoundsAnswer::Pair(bounds) => {
-            let Bounds { low, high } = bounds;
-            println!(rt; "{low} {high}")
-        }
-        BoundsAnswer::Refused(number) => print::refusal(rt, number),
+        Ok(Interval { low, high }) => println!(rt; "{low} {high}"),
+        Err(refusal) => print::refusal(rt, refusal),
     }
 }

@@ -1,6 +1,5 @@
 // Cases on a list of classes.
 use cases::print;
-use judge::Judged;
 use std::io;
 
 // `j .CLASSES W1 W2 ..`: the list judged four ways, and the event.
@@ -12,8 +11,5 @@ pub fn judged(rt: &impl Print, text: &[u8]) -> io::Result<()> {
     let Some(plan) = cases::words(&rest[list.len()..]) else {
         return print::bad_line(rt);
     };
-    match judge::judge(plan.as_slice(), list.as_slice()) {
-        Judged::Stops(judgement) => println!(rt; "{judgement}"),
-        Judged::Refused(number) => print::refusal(rt, number),
-    }
+    print::reply(rt, judge::judge(plan.as_slice(), list.as_slice()))
 }

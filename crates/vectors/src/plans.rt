@@ -1,5 +1,6 @@
 // Cases on a plan alone.
 use cases::print;
+use plan::Refusal;
 use std::io;
 
 // `a W1 W2 ..`: is the plan admitted?
@@ -10,6 +11,6 @@ pub fn admission(rt: &impl Print, text: &[u8]) -> io::Result<()> {
     if plan::admitted(plan.as_slice()) {
         println!(rt; "admitted")
     } else {
-        print::refusal(rt, 2)
+        print::refusal(rt, Refusal::Plan)
     }
 }

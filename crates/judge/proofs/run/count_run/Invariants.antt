@@ -1,12 +1,14 @@
--- `judge::count_run` meets its contract. The loop's invariant: c counts the first i classes too. Assumes nothing.
-use Prim.Native.Nat.{◌+◌, ◌-◌, ◌≤◌}
-use mathlib.Core.Path.{◌≡◌}
-use lib.ListN.{length, take}
+-- The counts so far and the parts that follow.
+use Rattle.std.proofs.Common.{◌≡◌, ◌+◌, ◌≤◌, length}
+use Rattle.std.specs.Slice.Iter.{chunks_rest, chunks_size}
 use Rattle.plan.specs.Counts.{units, counts_after}
 use Rattle.judge.proofs.run.count_run.Given as goal
 
-abbrev pub invariant-loop-i : goal.invariant-loop-i
-invariant-loop-i l = (l.i ≤ length l.run) × (units l.c ≡ units l.initial.c + l.i) × (l.c ≡ counts_after l.initial.c (take l.i l.run))
-
-abbrev pub decreases-loop-i : goal.decreases-loop-i
-decreases-loop-i l = length l.run - l.i
+abbrev pub invariant-loop-part : goal.invariant-loop-part
+invariant-loop-part l = record {
+  can_next : (goal.iterator-loop-part).can_next l.part-iterator;
+  is_finite : (goal.iterator-loop-part).is_finite l.part-iterator;
+  size : chunks_size l.part-iterator ≡ 224;
+  few : units l.c + length (chunks_rest l.part-iterator) ≤ 1000;
+  counted : counts_after l.c (chunks_rest l.part-iterator) ≡ counts_after l.initial.c l.run;
+}

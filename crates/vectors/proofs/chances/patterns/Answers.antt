@@ -17,9 +17,9 @@ a_number (fin s m e) x k h = tt
 pub float_to_bits-result : goal.float_to_bits-result
 float_to_bits-result c =
     let exact = c.requires in
-    a_number c.in-Pair.chart.low _ _ (subst (ExactFloats exact.0 exact.1) c.in-Pair.is exact.2).0
+    a_number c.in_ok-low.field-0.low _ _ (subst (ExactFloats exact.0 exact.1) c.in_ok-low.was exact.2).0
 
-pub float_to_bits-result-in-Pair : goal.float_to_bits-result-in-Pair
-float_to_bits-result-in-Pair c =
+pub float_to_bits-result-2 : goal.float_to_bits-result-2
+float_to_bits-result-2 c =
     let exact = c.requires in
-    a_number c.in-Pair.chart.high _ _ (subst (ExactFloats exact.0 exact.1) c.in-Pair.is exact.2).1
+    a_number c.in_ok-low.field-0.high _ _ (subst (ExactFloats exact.0 exact.1) c.in_ok-low.was exact.2).1
