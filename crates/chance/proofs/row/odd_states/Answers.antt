@@ -30,9 +30,3 @@ returns c =
     let l = c.loop-b in
     subst (λ (n : ℕ). FurtherTo a.t.setting a.y a.g a.from a.to a.layer.now l.layer l.bad n)
     (odd_none a.from a.to l.b l.invariant.1 l.invariant.0.at_most l.invariant.2 c.loop-b-test.false) l.invariant.0
-
-pub overflow_sub-b-in-loop-b : goal.overflow_sub-b-in-loop-b
-overflow_sub-b-in-loop-b c = let l = c.loop-b in omega (arith, odd_some c.args.from l.b l.invariant.1 c.loop-b-test.true)
-
-pub loop-b-smaller : goal.loop-b-smaller
-loop-b-smaller c = let l = c.loop-b in omega (arith, odd_some c.args.from l.b l.invariant.1 c.loop-b-test.true)

@@ -8,4 +8,4 @@ step_states-requires-clause-valued g c =
     let decided = c.write_decided-undecided in decided_valued (rw c.setting.ensures at decided.ensures) c.requires.valued decided.auto.layer
 
 pub returns : goal.returns
-returns g c = row_all (rw c.setting.ensures at c.write_decided-undecided.ensures) (further_all c.step_states.ensures (omega arith))
+returns g c = row_all (rw c.setting.ensures at c.write_decided-undecided.ensures) c.step_states.ensures
