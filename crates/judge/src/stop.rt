@@ -76,15 +76,18 @@ impl Case<'_> {
     {
         let way = Way::Staged(StageWay::Full);
         let mut c = Counts::none();
-        let mut i: usize = 0;
-        while i < self.list.len() {
-            let end = (plan::end_from(self.plan, 0, i as u32 + 1) as usize).min(self.list.len());
-            let after = count_run(&self.list[i..end], c);
+        let mut rest = self.list;
+        for stage in self.plan.chunks_exact(5) {
+            if rest.is_empty() {
+                break;
+            }
+            let (part, later) = rest.split_at((stage[0] as usize).min(rest.len()));
+            let after = count_run(part, c);
             if !plan::answer(self.plan, way, after).goes_on() {
-                return self.before_stop(way, c, end);
+                return self.before_stop(way, c, after.units() as usize);
             }
             c = after;
-            i = end;
+            rest = later;
         }
         c
     }

@@ -5,7 +5,7 @@ use mathlib.Core.Path.{sym, ap, ◌∙◌}
 use Rattle.plan.specs.Counts.{counts_after}
 use Rattle.plan.proofs.Promise.{shape}
 use Rattle.plan.specs.Stopping.{goes_on}
-use Rattle.judge.proofs.Runs.{run, run_length}
+use Rattle.judge.proofs.Runs.{run}
 use Rattle.judge.proofs.Halves.{is_on, Halved, halved, stop_found}
 use Rattle.judge.proofs.case.Case.before_stop.Goals as goal
 
