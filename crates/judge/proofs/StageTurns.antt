@@ -77,9 +77,6 @@ module _ (w : List ℕ) (ok : admitted w ≡ true) (xs : List ℕ) where
   }
 
   module _ (i : ℕ) (c : Counts) (rest ws : List ℕ) (r : Reached w xs i c rest ws) where
-    pub units_read : units c ≡ i
-    units_read = ap units r.counted ∙ units_to xs i r.within
-
     pub list_read : length rest ≡ 0 → BeforeStop (Staged Full) w xs c
     list_read n = all_read w ok xs i r.within r.went (omega (arith, ap length r.left, length-drop i xs)) c r.counted
 
