@@ -16,7 +16,7 @@ use Rattle.chance.specs.declared.setting.Setting.{Setting}
 use Rattle.chance.specs.declared.constant.Constant.{Constant}
 use Rattle.chance.specs.declared.row.Undecided.{Undecided}
 use Rattle.chance.specs.Chance.{scale}
-use Rattle.chance.specs.Layer.{word, state_value, Values, Valued, Between, Outside, Filled, further, Further, FurtherTo, Decided, SteppedRow}
+use Rattle.chance.specs.Layer.{word, state_value, Values, Valued, Between, Filled, further, Further, FurtherTo, Decided, SteppedRow}
 use Rattle.chance.specs.Constant.{constant_value, Legible}
 use Rattle.chance.proofs.States.{constant_is, inside, next_row, word_is, word_at_most, word_same, further_is, further_same}
 

@@ -8,7 +8,8 @@ use lib.ListN.{length}
 use native.Mathlib.Nat.{mul_comm, mul-pos, le_of_mul-le-mul_right, le_trans}
 use native.Mathlib.Omega.{arith}
 use Rattle.plan.specs.declared.counts.Counts.{Counts}
-use Rattle.plan.specs.Plan.{Stage, stages, total}
+use Rattle.plan.specs.declared.stage.Stage.{Stage}
+use Rattle.plan.specs.Plan.{stages, total}
 use Rattle.plan.specs.Counts.{units, no_units, add_units}
 use Rattle.plan.specs.Sample.{verdict}
 use Rattle.plan.proofs.Promise.{promise, counting}

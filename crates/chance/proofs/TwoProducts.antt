@@ -7,9 +7,8 @@ use native.Mathlib.Omega.{arith}
 use Rattle.chance.specs.declared.division.Reciprocal.{Reciprocal}
 use Rattle.chance.specs.declared.setting.Setting.{Setting}
 use Rattle.chance.specs.declared.constant.Constant.{Constant}
-use Rattle.chance.specs.Bounds.{weight_sum, weighted, rounded}
+use Rattle.chance.specs.Bounds.{weight_sum, weighted}
 use Rattle.chance.specs.Chance.{scale}
-use Rattle.chance.specs.Layer.{rounding}
 use Rattle.chance.specs.Constant.{constant_sum, constant_value}
 use Rattle.chance.proofs.Rounding.{rounds}
 use Rattle.chance.proofs.Reciprocals.{scaled, scaled_fits}

@@ -5,7 +5,8 @@ use Rattle.std.specs.declared.result.Result.{Result}
 use Rattle.std.specs.declared.result.Result.TheVariants.{Ok, Err}
 use Rattle.plan.specs.declared.refusal.Refusal.{Refusal}
 use Rattle.plan.specs.declared.refusal.Refusal.TheVariants as refusal
-use Rattle.plan.specs.Plan.{Stage, stages, total}
+use Rattle.plan.specs.declared.stage.Stage.{Stage}
+use Rattle.plan.specs.Plan.{stages, total}
 use Rattle.plan.specs.Counts.{no_units}
 use Rattle.plan.specs.Refusal.{Row, first_refusal}
 use Rattle.plan.specs.Sample.{verdict}

@@ -1,7 +1,8 @@
 -- The laws of the chance for lots of known size: statements alone. They are proved in proofs/Laws.antt. Document 02, change 2.
 use Rattle.std.specs.Prelude.{ℕ, zero, suc, ◌-◌, ◌*◌, ◌≤◌, ◌≡◌, ◌≢◌, true, List, length}
 use Rattle.plan.specs.declared.refusal.Refusal.{Refusal}
-use Rattle.plan.specs.Plan.{Stage, stages, total, admitted}
+use Rattle.plan.specs.declared.stage.Stage.{Stage}
+use Rattle.plan.specs.Plan.{stages, total, admitted}
 use Rattle.plan.specs.Counts.{no_units}
 use Rattle.plan.specs.Refusal.{First, RefusedByNumber}
 use Rattle.plan.specs.Reply.{refused}

@@ -1,11 +1,12 @@
 -- What `chance` and `chart` answer, and what they and the calls on expected units leave of the scratch (01: the bench). Document 01,
 -- "Refused" and "Chance of acceptance".
-use Rattle.std.specs.Prelude.{ℕ, ◌*◌, ◌≤◌, ◌≡◌, not, cond, ◌||◌, List, [], ◌∷◌, length, drop, ltb, eqb, Float}
+use Rattle.std.specs.Prelude.{ℕ, ◌*◌, ◌≡◌, not, cond, ◌||◌, List, [], ◌∷◌, length, drop, ltb, eqb, Float}
 use Rattle.std.specs.declared.result.Result.{Result}
 use Rattle.std.specs.declared.result.Result.TheVariants.{Ok, Err}
 use Rattle.plan.specs.declared.refusal.Refusal.{Refusal}
 use Rattle.plan.specs.declared.refusal.Refusal.TheVariants as refusal
-use Rattle.plan.specs.Plan.{Stage, stages, last_reject1, last_reject2, admitted}
+use Rattle.plan.specs.declared.stage.Stage.{Stage}
+use Rattle.plan.specs.Plan.{stages, last_reject1, last_reject2, admitted}
 use Rattle.plan.specs.Refusal.{Row, number, first_refusal}
 use Rattle.plan.specs.Reply.{Reply, granted, refused}
 use Rattle.chance.specs.declared.mean.Weights.{Weights}
@@ -13,7 +14,7 @@ use Rattle.chance.specs.declared.setting.Worth.{Worth}
 use Rattle.chance.specs.declared.setting.Kind.TheVariants.{Same}
 use Rattle.chance.specs.declared.answers.Interval.{Interval}
 use Rattle.chance.specs.Bounds.{Bounds, weight_sum, Valuation}
-use Rattle.chance.specs.Chance.{scale, low, high}
+use Rattle.chance.specs.Chance.{low, high}
 use Rattle.chance.specs.Layer.{valuation, valued_bounds}
 use Rattle.chance.specs.Fraction.{power, divided, Exactly}
 

@@ -7,7 +7,8 @@ use Rattle.plan.specs.declared.refusal.Refusal.{Refusal}
 use Rattle.plan.specs.declared.counts.Counts.{Counts}
 use Rattle.plan.specs.declared.stage.Answer.{Answer}
 use Rattle.plan.specs.declared.stage.Answer.TheVariants.{GoOn, Accept, Reject}
-use Rattle.plan.specs.Plan.{Stage, stages, total}
+use Rattle.plan.specs.declared.stage.Stage.{Stage}
+use Rattle.plan.specs.Plan.{stages, total}
 use Rattle.plan.specs.Counts.{no_units, add_units}
 use Rattle.plan.specs.Stopping.{earliest}
 use Rattle.plan.specs.Refusal.{first_refusal}

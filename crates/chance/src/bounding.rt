@@ -1,5 +1,5 @@
 // Both bounds of a valuation, and the refusals. The scratch is 01's bench.
-ghost use Rattle.std.specs.Prelude.{◌≡◌, true, ◌*◌, ◌≤◌, length};
+ghost use Rattle.std.specs.Prelude.{◌≡◌, true, ◌*◌, ◌^◌, ◌≤◌, ◌<◌, length};
 ghost use Rattle.plan.specs.Plan.{stages, total, last_reject1, last_reject2, admitted};
 ghost use Rattle.chance.specs.declared.setting.Kind.TheVariants.{Left};
 ghost use Rattle.chance.specs.Bounds.{weight_sum, Proportions};
@@ -75,7 +75,7 @@ pub fn weighted(
     worth: Worth,
     scratch: &mut [u64],
 ) -> Result<Bounds, Refusal>
-    requires { weight_sum weights ≤ 12884901885 }
+    requires { weight_sum weights < 2 ^ 64 }
     ensures value { result ≡ weighted_answer plan.now weights worth (length scratch.old) }
     ensures keeps { Keeps plan.now weights scratch.old scratch.new }
 {

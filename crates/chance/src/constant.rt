@@ -7,7 +7,8 @@ ghost use Rattle.chance.specs.Constant.{constant_sum};
 
 use crate::division::Reciprocal;
 use crate::mean::rounded_by;
-use crate::setting::Setting;
+use crate::outcomes::Outcomes;
+use crate::setting::{CERTAIN, Setting};
 
 // What is the same for all states: the weights of a marginal and of a bad unit, and what is added to the products,
 // by the scale of the divisor.
@@ -26,8 +27,6 @@ pub struct Constant {
 }
 
 impl Constant {
-    ghost use Rattle.std.specs.Prelude.{◌≤◌};
-    ghost use Rattle.chance.specs.Chance.{scale};
     ghost use Rattle.chance.specs.Constant.{constant_value};
 
     pub fn of(setting: Setting) -> Self
@@ -37,7 +36,7 @@ impl Constant {
         let w = setting.weights;
         let total = w.sum();
         let divisor = Reciprocal::of(total);
-        let added = w.good * (1 << 40) + total * setting.worth.cost + rounded_by(setting.up, total);
+        let added = w.good * CERTAIN + total * setting.worth.cost + rounded_by(setting.up, total);
         Constant {
             setting,
             marginal: w.marginal * divisor.scale,
@@ -48,12 +47,11 @@ impl Constant {
     }
 
     // The cost and the mean.
-    pub fn mean(self, good: u64, marginal: u64, bad: u64) -> u64
-        requires { (good ≤ scale) × (marginal ≤ scale) × (bad ≤ scale) }
-        ensures { result ≡ constant_value self.setting good marginal bad }
+    pub fn mean(self, v: Outcomes) -> u64
+        ensures { result ≡ constant_value self.setting v.good v.marginal v.bad }
     {
-        let rest = (1 << 40) - good;
-        let sum = self.marginal * (marginal + rest) + self.bad * (bad + rest) + self.added;
+        let rest = CERTAIN - v.good;
+        let sum = self.marginal * (v.marginal + rest) + self.bad * (v.bad + rest) + self.added;
         self.divisor.quotient(sum) - rest
     }
 }

@@ -16,6 +16,7 @@ mod layer;
 mod lot;
 mod mean;
 mod means;
+mod outcomes;
 mod row;
 mod setting;
 

@@ -2,11 +2,11 @@
 ghost use Rattle.std.specs.Prelude.{◌≡◌, ℕ, ◌+◌, ◌≤◌, ◌<◌};
 ghost use Rattle.chance.specs.declared.setting.Setting.{Setting};
 ghost use Rattle.chance.specs.Bounds.{weight_sum};
-ghost use Rattle.chance.specs.Chance.{scale};
 ghost use Rattle.chance.specs.Layer.{at, setting_weights, state_value};
 
 use crate::constant::Constant;
 use crate::division::Reciprocal;
+use crate::outcomes::Outcomes;
 use crate::setting::Setting;
 
 pub trait Means: Copy {
@@ -16,10 +16,9 @@ pub trait Means: Copy {
         ensures { result ≡ of self };
 
     // The cost of a unit and the mean of the values after it.
-    fn value(self, y: usize, g: usize, b: usize, good: u64, marginal: u64, bad: u64) -> u64
-        requires state { (b ≤ g) × (g ≤ y) × (0 < weight_sum (setting_weights (of self) (at y g b))) }
-        requires good_le_scale { (good ≤ scale) × (marginal ≤ scale) × (bad ≤ scale) }
-        ensures { result ≡ state_value (of self) y g b good marginal bad };
+    fn value(self, y: usize, g: usize, b: usize, v: Outcomes) -> u64
+        requires { (b ≤ g) × (g ≤ y) × (0 < weight_sum (setting_weights (of self) (at y g b))) }
+        ensures { result ≡ state_value (of self) y g b v.good v.marginal v.bad };
 }
 
 // With any weights, and a number by which most of their sums in a layer are divided.
@@ -49,11 +48,9 @@ impl Means for Drawn {
         self.setting
     }
 
-    fn value(self, y: usize, g: usize, b: usize, good: u64, marginal: u64, bad: u64) -> u64 {
+    fn value(self, y: usize, g: usize, b: usize, v: Outcomes) -> u64 {
         let s = self.setting;
-        s.worth.cost
-            + s.weights_at(y, g, b)
-                .mean(self.divisor, s.up, good, marginal, bad)
+        s.worth.cost + s.weights_at(y, g, b).mean(self.divisor, s.up, v)
     }
 }
 
@@ -64,7 +61,7 @@ impl Means for Constant {
         self.setting
     }
 
-    fn value(self, _y: usize, _g: usize, _b: usize, good: u64, marginal: u64, bad: u64) -> u64 {
-        self.mean(good, marginal, bad)
+    fn value(self, _y: usize, _g: usize, _b: usize, v: Outcomes) -> u64 {
+        self.mean(v)
     }
 }

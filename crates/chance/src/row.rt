@@ -6,6 +6,7 @@ ghost use Rattle.chance.specs.Constant.{constant_value, Legible};
 
 use crate::constant::Constant;
 use crate::means::Means;
+use crate::outcomes::Outcomes;
 use crate::setting::Setting;
 
 // The words from `from` on and below `to` become `value`. The slices' own `fill` made a row's step slower.
@@ -60,7 +61,12 @@ fn step_states<M: Means>(
     let mut bad = edge_value(layer, s, g + 1, to);
     for b in (from..to).rev() {
         let marginal = value_at(layer, s, g + 1, b);
-        layer[start + b] = means.value(y, g, b, layer[start + b], marginal, bad);
+        let v = Outcomes {
+            good: layer[start + b],
+            marginal,
+            bad,
+        };
+        layer[start + b] = means.value(y, g, b, v);
         bad = marginal;
     }
     bad
@@ -73,7 +79,12 @@ fn state(layer: &mut [u64], t: Constant, row: usize, next: usize, b: usize, bad:
     ensures layer_after { layer.new ≡ set layer.old (row + b) (constant_value t.setting (get_or layer.old (row + b) 0) (get_or layer.old (next + b) 0) bad) }
 {
     let marginal = layer[next + b];
-    layer[row + b] = t.mean(layer[row + b], marginal, bad);
+    let v = Outcomes {
+        good: layer[row + b],
+        marginal,
+        bad,
+    };
+    layer[row + b] = t.mean(v);
     marginal
 }
 

@@ -5,6 +5,12 @@ ghost use Rattle.chance.specs.Chance.{scale};
 
 use crate::mean::Weights;
 
+// The chance 1, in units of 2^-40.
+pub const CERTAIN: u64 = 1 << 40;
+
+// One unit of a lot, in units of 2^-30.
+const UNIT: u64 = 1 << 30;
+
 // The value at acceptance (that at rejection is 0), and the cost of each further unit.
 #[derive(Clone, Copy)]
 pub struct Worth {
@@ -19,7 +25,7 @@ impl Worth {
         ensures { (result.accepted ≡ 2 ^ 40) × (result.cost ≡ 0) }
     {
         Worth {
-            accepted: 1 << 40,
+            accepted: CERTAIN,
             cost: 0,
         }
     }
@@ -30,7 +36,7 @@ impl Worth {
     {
         Worth {
             accepted: 0,
-            cost: 1 << 30,
+            cost: UNIT,
         }
     }
 }
@@ -42,7 +48,7 @@ pub enum Kind {
     Left,
 }
 
-// The last rejection numbers, what is expected, and the rounding.
+// The last rejection numbers, what is expected, and whether it is rounded up: a bool, as an enum made a lot's states slower.
 #[derive(Clone, Copy)]
 pub struct Setting {
     pub r1: usize,

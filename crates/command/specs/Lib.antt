@@ -1,4 +1,2 @@
 pub mod Read
-pub mod Fields
-pub mod Written
 pub mod Taking

@@ -1,39 +1,38 @@
-// A line answered on a sheet: the command is read, its call is made, and its reply is printed. Document 01,
-// "Program lots"; document 02, change 7.
-ghost use Rattle.std.specs.Prelude.{◌≡◌, ◌≤◌, length};
-ghost use Rattle.sheetmodel.specs.Offices.{no_shares};
-ghost use Rattle.sheetmodel.specs.Calls.{fresh};
-ghost use Rattle.commandmodel.specs.Printed.{longest_reply, answer};
-ghost use Rattle.command.specs.Written.{Gives};
+// A line answered on a sheet: its command's call is made, and the reply is printed. Document 01, "Program lots";
+// document 02, change 7.
+ghost use Rattle.std.specs.Prelude.{◌≡◌};
+ghost use Rattle.commandmodel.specs.Command.{whole_stages};
+ghost use Rattle.commandmodel.specs.Printed.{answer};
 
-use crate::reading::{Command, read_command};
-use crate::replies::{put_done, put_look, put_refusal, put_tally};
-use sheet::Done;
+use crate::printing::Reply;
+use crate::reading::read_words;
+use crate::replies::{printed, refused};
+use plan::Refusal;
 
-// Every office gets share 0.
-fn fresh_without_shares(sheet: &mut [u32], plan: &[u32]) -> Done
-    ensures value { result ≡ (fresh plan.now no_shares sheet.old).reply }
-    ensures sheet_after { sheet.new ≡ (fresh plan.now no_shares sheet.old).words }
+// Are so many numbers those of 1 to 7 stages?
+fn whole_stages(n: usize) -> bool
+    ensures { result ≡ whole_stages n }
 {
-    let shares = [0u32; 16];
-    sheet::fresh(sheet, plan, &shares)
+    n % 5 == 0 && 5 <= n && n <= 35
 }
 
-// Answers a line, which is without the byte 10. The result is the number of bytes printed; the others of `out`
-// stay as they are.
-pub fn answer(line: &[u8], sheet: &mut [u32], out: &mut [u8]) -> usize
-    requires { longest_reply ≤ length out.old }
-    ensures { Gives (answer line.now sheet.old) out.old result out.new sheet.new }
+// Answers a line, which is without the byte 10.
+pub fn answer(line: &[u8], sheet: &mut [u32]) -> Reply
+    ensures reply { result.items ≡ (answer line.now sheet.old).reply }
+    ensures sheet_after { sheet.new ≡ (answer line.now sheet.old).words }
 {
-    let mut list = [0u32; 35];
-    match read_command(line, &mut list) {
-        Command::Fresh(n) => put_done(out, fresh_without_shares(sheet, &list[..n])),
-        Command::Open(lot) => put_done(out, sheet::open(sheet, lot)),
-        Command::Inspect(lot, class) => put_done(out, sheet::inspect(sheet, lot, class)),
-        Command::Strike(lot) => put_done(out, sheet::strike(sheet, lot)),
-        Command::Look(lot) => put_look(out, sheet::look(sheet, lot)),
-        Command::Close(lot) => put_done(out, sheet::close(sheet, lot)),
-        Command::Tally => put_tally(out, sheet::tally(sheet)),
-        Command::Bad => put_refusal(out, 16),
+    let Some(words) = read_words(line) else {
+        return refused(Refusal::Line);
+    };
+    match (words.letter, words.numbers.as_slice()) {
+        // Every office gets share 0.
+        (b'p', plan) if whole_stages(plan.len()) => printed(sheet::fresh(sheet, plan, &[0; 16])),
+        (b'o', [lot]) => printed(sheet::open(sheet, *lot)),
+        (b'i', [lot, class]) => printed(sheet::inspect(sheet, *lot, *class)),
+        (b's', [lot]) => printed(sheet::strike(sheet, *lot)),
+        (b'l', [lot]) => printed(sheet::look(sheet, *lot)),
+        (b'c', [lot]) => printed(sheet::close(sheet, *lot)),
+        (b't', []) => printed(sheet::tally(sheet)),
+        _ => refused(Refusal::Line),
     }
 }

@@ -2,12 +2,10 @@
 #![tactic(auto)]
 
 mod answering;
-mod arguments;
 mod decimal;
-mod fields;
 mod printing;
 mod reading;
 mod replies;
 mod taking;
 
-pub use taking::{Taken, end_input, take_bytes};
+pub use taking::{Line, end_input, take_bytes};

@@ -1,91 +1,35 @@
-// The command that a line is. Document 01, "Program lots".
-ghost use Rattle.std.specs.Prelude.{◌≡◌, ◌≤◌, length, take};
-ghost use Rattle.commandmodel.specs.Command.{whole_stages, forms, by_letter, command};
-ghost use Rattle.command.specs.Read.{most_numbers, meaning, plan_numbers};
+// The letter and the numbers of a line. Document 01, "Program lots".
+ghost use Rattle.std.specs.Prelude.{◌≡◌};
+ghost use Rattle.commandmodel.specs.Command.{command};
+ghost use Rattle.command.specs.Read.{meaning};
 
-use crate::arguments::{Count, read_numbers};
-use crate::fields::find;
+use crate::decimal::read_number;
+use arrayvec::ArrayVec;
 
-// A command; of Fresh, how many numbers the plan has, which are in a list beside it.
-#[derive(Clone, Copy)]
-pub enum Command {
-    Fresh(usize),
-    Open(u32),
-    Inspect(u32, u32),
-    Strike(u32),
-    Look(u32),
-    Close(u32),
-    Tally,
-    Bad,
+// A line's letter, and the numbers after it. No command takes more numbers than a plan of 7 stages.
+#[derive(Drop)]
+pub struct Words {
+    pub letter: u8,
+    pub numbers: ArrayVec<u32, 35>,
 }
 
-// Are so many numbers those of 1 to 7 stages?
-fn whole_stages(n: usize) -> bool
-    ensures { result ≡ whole_stages n }
-{
-    if n % 5 != 0 {
-        return false;
-    }
-    if n < 5 {
-        return false;
-    }
-    n <= 35
-}
-
-// The command of a letter and so many numbers.
-fn command_of(letter: u8, n: usize, list: &[u32]) -> Command
-    requires { (n ≤ most_numbers) × (length list.now ≡ most_numbers) }
-    ensures { (by_letter forms letter (take n list.now) ≡ meaning result list.now) × (plan_numbers result ≤ most_numbers) }
-{
-    if letter == b'p' {
-        if whole_stages(n) {
-            return Command::Fresh(n);
-        }
-        return Command::Bad;
-    }
-    if letter == b'i' {
-        if n == 2 {
-            return Command::Inspect(list[0], list[1]);
-        }
-        return Command::Bad;
-    }
-    if letter == b't' {
-        if n == 0 {
-            return Command::Tally;
-        }
-        return Command::Bad;
-    }
-    if n != 1 {
-        return Command::Bad;
-    }
-    if letter == b'o' {
-        return Command::Open(list[0]);
-    }
-    if letter == b's' {
-        return Command::Strike(list[0]);
-    }
-    if letter == b'l' {
-        return Command::Look(list[0]);
-    }
-    if letter == b'c' {
-        return Command::Close(list[0]);
-    }
-    Command::Bad
-}
-
-// Reads a line. The list takes its numbers.
-pub fn read_command(line: &[u8], list: &mut [u32]) -> Command
-    requires { length list.old ≡ most_numbers }
-    ensures { (command line.now ≡ meaning result list.new) × (plan_numbers result ≤ most_numbers) }
+// Reads a line's fields, which are parted by one space.
+pub fn read_words(line: &[u8]) -> Option<Words>
+    ensures { command line.now ≡ meaning result }
 {
     if 255 < line.len() {
-        return Command::Bad;
+        return None;
     }
-    if find(line, 0, b' ') != 1 {
-        return Command::Bad;
+    let mut fields = line.split(|byte| *byte == b' ');
+    let [letter] = fields.next()? else {
+        return None;
+    };
+    let mut words = Words {
+        letter: *letter,
+        numbers: ArrayVec::new(),
+    };
+    for field in fields {
+        words.numbers.try_push(read_number(field)?).ok()?;
     }
-    match read_numbers(line, 1, list) {
-        Count::Bad => Command::Bad,
-        Count::Numbers(n) => command_of(line[0], n, list),
-    }
+    Some(words)
 }

@@ -1,86 +1,74 @@
-// What is printed for each reply. Document 01, "Program lots".
-ghost use Rattle.std.specs.Prelude.{◌≡◌, ◌+◌, ◌*◌, ◌≤◌, length};
-ghost use Rattle.commandmodel.specs.Printed.{longest_reply, state_word, reply_line, refusal, done_printed, look_printed, tally_printed};
-ghost use Rattle.command.specs.Written.{written};
+// The line of each reply. Document 01, "Program lots".
+ghost use Rattle.std.specs.Prelude.{◌≡◌};
+ghost use Rattle.commandmodel.specs.Printed.{refusal, reply_printed};
 
-use crate::printing::{put_bytes, put_numbers};
-use plan::Answer;
-use sheet::{Done, Looked, Tallied};
+use crate::printing::{Reply, reply_line};
+use plan::{Answer, Refusal};
+use sheet::{Shown, Totals};
 
-// The most bytes that a reply has.
-pub const LONGEST_REPLY: usize = 65;
+// What a granted call gives, and its line.
+pub trait Granted {
+    ghost use Rattle.std.specs.Prelude.{ℕ, List};
 
-// Prints a line with a word and numbers. The result is the number of its bytes.
-fn put_line(out: &mut [u8], word: &[u8], numbers: &[u32]) -> usize
-    requires { length word.now + (11 * length numbers.now + 1) ≤ length out.old }
-    ensures value { result ≡ length (reply_line word.now numbers.now) }
-    ensures out_after { out.new ≡ written out.old 0 (reply_line word.now numbers.now) }
-{
-    let after = put_bytes(out, 0, word);
-    let end = put_numbers(out, after, numbers);
-    out[end] = b'\n';
-    end + 1
+    ghost line: { Self → List ℕ };
+
+    fn line(self) -> Reply
+        ensures { result.items ≡ line self };
 }
 
-// Each of these prints a reply's line. The result is the number of its bytes.
-pub fn put_refusal(out: &mut [u8], n: u32) -> usize
-    requires { longest_reply ≤ length out.old }
-    ensures value { result ≡ length (refusal n) }
-    ensures out_after { out.new ≡ written out.old 0 (refusal n) }
-{
-    let numbers = [n];
-    put_line(out, b"no", &numbers)
-}
+impl Granted for () {
+    ghost use Rattle.commandmodel.specs.Printed.{done_line};
 
-pub fn put_done(out: &mut [u8], done: Done) -> usize
-    requires { longest_reply ≤ length out.old }
-    ensures value { result ≡ length (done_printed done) }
-    ensures out_after { out.new ≡ written out.old 0 (done_printed done) }
-{
-    match done {
-        Done::Ok => put_line(out, b"ok", &[]),
-        Done::Refused(n) => put_refusal(out, n),
+    ghost line = { done_line };
+
+    fn line(self) -> Reply {
+        reply_line(b"ok", &[])
     }
 }
 
-// The state's word, and the numbers.
-fn put_shown(out: &mut [u8], answer: Answer, numbers: &[u32]) -> usize
-    requires { (longest_reply ≤ length out.old) × (length numbers.now ≡ 5) }
-    ensures value { result ≡ length (reply_line (state_word answer) numbers.now) }
-    ensures out_after { out.new ≡ written out.old 0 (reply_line (state_word answer) numbers.now) }
-{
-    match answer {
-        Answer::GoOn => put_line(out, b"undecided", numbers),
-        Answer::Accept => put_line(out, b"accepted", numbers),
-        Answer::Reject => put_line(out, b"rejected", numbers),
-    }
-}
+impl Granted for Shown {
+    ghost use Rattle.commandmodel.specs.Printed.{look_line};
 
-pub fn put_look(out: &mut [u8], looked: Looked) -> usize
-    requires { longest_reply ≤ length out.old }
-    ensures value { result ≡ length (look_printed looked) }
-    ensures out_after { out.new ≡ written out.old 0 (look_printed looked) }
-{
-    match looked {
-        Looked::Refused(n) => put_refusal(out, n),
-        Looked::Shown(s) => {
-            let numbers = [s.units, s.good, s.marginal, s.bad, s.blanks];
-            let answer = s.answer;
-            put_shown(out, answer, &numbers)
+    ghost line = { look_line };
+
+    fn line(self) -> Reply {
+        let numbers = [self.units, self.good, self.marginal, self.bad, self.blanks];
+        match self.answer {
+            Answer::GoOn => reply_line(b"undecided", &numbers),
+            Answer::Accept => reply_line(b"accepted", &numbers),
+            Answer::Reject => reply_line(b"rejected", &numbers),
         }
     }
 }
 
-pub fn put_tally(out: &mut [u8], tallied: Tallied) -> usize
-    requires { longest_reply ≤ length out.old }
-    ensures value { result ≡ length (tally_printed tallied) }
-    ensures out_after { out.new ≡ written out.old 0 (tally_printed tallied) }
+impl Granted for Totals {
+    ghost use Rattle.commandmodel.specs.Printed.{tally_line};
+
+    ghost line = { tally_line };
+
+    fn line(self) -> Reply {
+        let numbers = [
+            self.accepted,
+            self.rejected,
+            self.good,
+            self.marginal,
+            self.bad,
+        ];
+        reply_line(b"tally", &numbers)
+    }
+}
+
+pub fn refused(reason: Refusal) -> Reply
+    ensures { result.items ≡ refusal reason }
 {
-    match tallied {
-        Tallied::Refused(n) => put_refusal(out, n),
-        Tallied::Totals(t) => {
-            let numbers = [t.accepted, t.rejected, t.good, t.marginal, t.bad];
-            put_line(out, b"tally", &numbers)
-        }
+    reply_line(b"no", &[reason.number()])
+}
+
+pub fn printed<T: Granted>(reply: Result<T, Refusal>) -> Reply
+    ensures { result.items ≡ reply_printed T.line reply }
+{
+    match reply {
+        Ok(granted) => granted.line(),
+        Err(reason) => refused(reason),
     }
 }

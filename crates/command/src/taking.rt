@@ -1,103 +1,91 @@
 // The bytes of an input, block by block, to replies on a sheet. Document 01, "Program lots".
-ghost use Rattle.std.specs.Prelude.{◌≡◌, ◌≤◌, length, take};
-ghost use Rattle.commandmodel.specs.Blocks.{most_kept, kept, fed, input_ended, taken};
-ghost use Rattle.commandmodel.specs.Printed.{longest_reply, answer};
-ghost use Rattle.command.specs.Written.{written, Gives};
-ghost use Rattle.command.specs.Taking.{Left, Progress};
+ghost use Rattle.std.specs.Prelude.{◌≡◌, ◌+◌, ◌-◌, ◌≤◌, eqb, [], ◌++◌, length, take, position};
+ghost use Rattle.commandmodel.specs.Blocks.{kept, fed, input_ended, taken};
+ghost use Rattle.commandmodel.specs.Printed.{end_of_line, longest_reply, answer};
+ghost use Rattle.command.specs.Taking.{Left};
+ghost use Rattle.arrayvec.specs.ArrayVec.{array_vec_len};
 
 use crate::answering::answer;
-use crate::fields::find;
-use crate::printing::put_bytes;
-use crate::replies::LONGEST_REPLY;
+use crate::printing::{LONGEST_REPLY, Reply};
+use arrayvec::ArrayVec;
 
-// How many bytes were taken, are kept of the line that has not ended yet, and were printed.
-#[derive(Clone, Copy)]
-pub struct Taken {
-    pub bytes: usize,
-    pub line: usize,
-    pub replies: usize,
-}
+// What is kept of a line that has not ended yet: a byte more than a line may have, so that a line that is too
+// long is known by it.
+pub type Line = ArrayVec<u8, 256>;
 
-// Adds bytes to the first n of a line, as long as there is room. The result is how many are kept.
-fn keep(line: &mut [u8], n: usize, bytes: &[u8]) -> usize
-    requires { (n ≤ most_kept) × (length line.old ≡ most_kept) }
-    ensures value { result ≡ length (kept (take n line.old) bytes.now) }
-    ensures line_after { line.new ≡ written line.old 0 (kept (take n line.old) bytes.now) }
+// Adds bytes to a line, as long as there is room.
+#[tactic(auto, using(crate::proofs::Kept::kept_room))]
+fn keep(line: &mut Line, bytes: &[u8])
+    ensures { line.new.items ≡ kept line.old.items bytes.now }
 {
-    let room = line.len() - n;
-    if room < bytes.len() {
-        return put_bytes(line, n, &bytes[..room]);
-    }
-    put_bytes(line, n, bytes)
+    let room = line.remaining_capacity().min(bytes.len());
+    line.try_extend_from_slice(&bytes[..room]).unwrap();
 }
 
-// Answers the line that has the first n bytes of `line` and then `rest`.
-fn answer_line(line: &[u8], n: usize, rest: &[u8], sheet: &mut [u32], out: &mut [u8]) -> usize
-    requires { (n ≤ most_kept) × (length line.now ≡ most_kept) × (longest_reply ≤ length out.old) }
-    ensures { Gives (answer (kept (take n line.now) rest.now) sheet.old) out.old result out.new sheet.new }
+// Answers the line that ends with `rest`, and leaves an empty one.
+#[tactic(auto, using(crate::proofs::Kept::kept_rest))]
+fn answer_rest(line: &mut Line, rest: &[u8], sheet: &mut [u32]) -> Reply
+    ensures reply { result.items ≡ (answer (kept line.old.items rest.now) sheet.old).reply }
+    ensures sheet_after { sheet.new ≡ (answer (kept line.old.items rest.now) sheet.old).words }
+    ensures line_after { line.new.items ≡ [] }
 {
-    if n == 0 {
-        return answer(rest, sheet, out);
+    // A line that lies whole in the block is not copied.
+    if line.is_empty() {
+        return answer(rest, sheet);
     }
-    let mut whole = [0u8; 256];
-    put_bytes(&mut whole, 0, &line[..n]);
-    let end = keep(&mut whole, n, rest);
-    answer(&whole[..end], sheet, out)
+    keep(line, rest);
+    let reply = answer(line.as_slice(), sheet);
+    line.clear();
+    reply
 }
 
-// Takes the bytes of a block while there is room for one more reply. Of the line that has not ended yet the
-// first `held` bytes are in `line`. The other bytes of `line` and of `replies` stay as they are.
-pub fn take_bytes(
+// Where the line ends that begins with these bytes.
+fn line_end(bytes: &[u8]) -> Option<usize>
+    ensures { result ≡ position (λ byte. eqb byte end_of_line) bytes.now }
+{
+    bytes.iter().position(|byte| *byte == b'\n')
+}
+
+// Takes the bytes of a block while there is room for one more reply. The result is how many are taken.
+pub fn take_bytes<const N: usize>(
     block: &[u8],
-    line: &mut [u8],
-    held: usize,
+    line: &mut Line,
     sheet: &mut [u32],
-    replies: &mut [u8],
-) -> Taken
-    requires { (held ≤ most_kept) × (length line.old ≡ most_kept) }
-    ensures bytes_value { result.bytes ≡ taken (length replies.old) (take held line.old) sheet.old block.now }
-    ensures left { Left (fed (take held line.old) sheet.old (take result.bytes block.now)) line.old replies.old result line.new sheet.new replies.new }
-    ensures progress { Progress block.now replies.old result }
+    replies: &mut ArrayVec<u8, N>,
+) -> usize
+    ensures bytes { result ≡ taken (N - array_vec_len replies.old) line.old.items sheet.old block.now }
+    ensures within { result ≤ length block.now }
+    ensures some_byte { array_vec_len replies.old + longest_reply ≤ N → 1 ≤ length block.now → 1 ≤ result }
+    ensures left { Left (fed line.old.items sheet.old (take result block.now)) replies.old.items line.new.items sheet.new replies.new.items }
 {
-    let mut at = 0;
-    let mut n = held;
-    let mut used = 0;
-    while at < block.len() {
-        if replies.len() - used < LONGEST_REPLY {
-            return Taken {
-                bytes: at,
-                line: n,
-                replies: used,
-            };
+    let mut rest = block;
+    // Not a `for` over the block's `split_inclusive`: tried, the proof did not close in a function with a const
+    // parameter.
+    while !rest.is_empty() && LONGEST_REPLY <= replies.remaining_capacity() {
+        match line_end(rest) {
+            None => {
+                keep(line, rest);
+                rest = &[];
+            }
+            Some(end) => {
+                let reply = answer_rest(line, &rest[..end], sheet);
+                replies.try_extend_from_slice(reply.as_slice()).unwrap();
+                rest = &rest[end + 1..];
+            }
         }
-        let end = find(block, at, b'\n');
-        if end == block.len() {
-            let m = keep(line, n, &block[at..]);
-            return Taken {
-                bytes: end,
-                line: m,
-                replies: used,
-            };
-        }
-        used += answer_line(line, n, &block[at..end], sheet, &mut replies[used..]);
-        n = 0;
-        at = end + 1;
     }
-    Taken {
-        bytes: at,
-        line: n,
-        replies: used,
-    }
+    block.len() - rest.len()
 }
 
-// Answers the line that has not ended yet, if it has a byte. The result is the number of bytes printed; the
-// others of `replies` stay as they are.
-pub fn end_input(line: &[u8], held: usize, sheet: &mut [u32], replies: &mut [u8]) -> usize
-    requires { (held ≤ most_kept) × (length line.now ≡ most_kept) × (longest_reply ≤ length replies.old) }
-    ensures { Gives (input_ended (take held line.now) sheet.old) replies.old result replies.new sheet.new }
+// Answers the line that has not ended yet, if it has a byte. There is room for a reply.
+#[tactic(auto, unfolding(commandmodel::specs::Blocks::input_ended))]
+pub fn end_input<const N: usize>(line: &Line, sheet: &mut [u32], replies: &mut ArrayVec<u8, N>)
+    requires { array_vec_len replies.old + longest_reply ≤ N }
+    ensures replies_after { replies.new.items ≡ replies.old.items ++ (input_ended line.now.items sheet.old).reply }
+    ensures sheet_after { sheet.new ≡ (input_ended line.now.items sheet.old).words }
 {
-    if held == 0 {
-        return 0;
+    if !line.is_empty() {
+        let reply = answer(line.as_slice(), sheet);
+        replies.try_extend_from_slice(reply.as_slice()).unwrap();
     }
-    answer(&line[..held], sheet, replies)
 }

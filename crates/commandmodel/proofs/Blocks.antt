@@ -3,16 +3,16 @@ use Prim.Native.Nat.{ℕ, zero, suc, ◌≤◌, ◌<◌}
 use native.Mathlib.Omega.{arith}
 use mathlib.Core.Path.{◌≡◌, refl, ap, sym, ◌∙◌}
 use mathlib.Core.Bool.{Bool, true, false, cond}
-use mathlib.Core.Option.{none}
+use Rattle.std.specs.Prelude.{None}
 use mathlib.Core.List.{List, [], ◌∷◌, ◌++◌, append_assoc, append-nil}
 use lib.ListN.{length, take, length-take}
 use lib.Seq.{take_all, length-take-le}
 use lib.Dec.{leb, eqb}
 use borrow.Author.Tests.{lt-leb, ne_eqb, leb-true, leb-false}
 use Rattle.sheetmodel.specs.Calls.{Outcome}
-use Rattle.commandmodel.specs.Command.{longest_line, in_front, fields, of_fields, command}
+use Rattle.commandmodel.specs.Command.{longest_line, fields, of_fields, command}
 use Rattle.commandmodel.specs.Printed.{end_of_line, answered, answer}
-use Rattle.commandmodel.specs.Lines.{lines, replied, answers, session}
+use Rattle.commandmodel.specs.Lines.{in_front, lines, replied, answers, session}
 use Rattle.commandmodel.specs.Blocks.{most_kept, kept, Fed, byte_fed, after_replies, fed, input_ended, blocks_fed, joined, BlockLaw, KeptLaw}
 
 -- ---- what is kept of a line
@@ -37,7 +37,7 @@ unfolding answer command
 kept_law line w = go (leb (length line) most_kept) refl
   where
     go : (t : Bool) → leb (length line) most_kept ≡ t
-        → answered (cond (leb (length (take most_kept line)) longest_line) (of_fields (fields (take most_kept line))) none) w ≡ answered (cond (leb (length line) longest_line) (of_fields (fields line)) none) w
+        → answered (cond (leb (length (take most_kept line)) longest_line) (of_fields (fields (take most_kept line))) None) w ≡ answered (cond (leb (length line) longest_line) (of_fields (fields line)) None) w
     go true e = rw (take_all most_kept line (leb-true (length line) most_kept e))
     go false e =
         let h : most_kept < length line = leb-false (length line) most_kept e in

@@ -5,7 +5,8 @@ use native.Mathlib.Nat.{pow-suc, pow-zero, pow-le-pow_right}
 use native.Mathlib.Numerals.{add-one}
 use mathlib.Core.Path.{◌≡◌, refl, ap, sym, ◌∙◌}
 use mathlib.Core.Bool.{Bool, true, false, cond, ◌&&◌, and-false}
-use mathlib.Core.Option.{Option, none, some}
+use Rattle.std.specs.Prelude.{Option, None, Some, decimal}
+use Rattle.std.proofs.lemmas.Fmt.{decimal_from_appends, length-decimal-le}
 use mathlib.Core.List.{List, [], ◌∷◌, ◌++◌}
 use lib.ListN.{length, get_or, drop, length-append, drop_of_length-le}
 use lib.Seq.{drop-cons}
@@ -18,8 +19,8 @@ use Rattle.commandmodel.specs.Decimal.{most_digits, zero_byte, digit_byte, is_di
 -- ---- one digit more at the end
 
 abbrev then : Option ℕ → ℕ → Option ℕ
-then none b = none
-then (some n) b = some (with_digit n b)
+then None b = None
+then (Some n) b = Some (with_digit n b)
 
 byte_is_digit : (d : ℕ) → d < 10 → is_digit (digit_byte d) ≡ true
 byte_is_digit d h = rw (le-leb zero_byte (digit_byte d) (omega arith), le-leb (digit_byte d) (zero_byte + 9) (omega arith))
@@ -30,7 +31,7 @@ one_more n [] d h = rw (byte_is_digit d h)
 one_more n (b ∷ bs) d h = go (is_digit b) (one_more (with_digit n b) bs d h)
   where
     go : (t : Bool) → with_digits (with_digit n b) (bs ++ (digit_byte d ∷ [])) ≡ then (with_digits (with_digit n b) bs) (digit_byte d)
-        → cond t (with_digits (with_digit n b) (bs ++ (digit_byte d ∷ []))) none ≡ then (cond t (with_digits (with_digit n b) bs) none) (digit_byte d)
+        → cond t (with_digits (with_digit n b) (bs ++ (digit_byte d ∷ []))) None ≡ then (cond t (with_digits (with_digit n b) bs) None) (digit_byte d)
     go true e = e
     go false e = refl
 
@@ -46,7 +47,7 @@ module _ (k n : ℕ) where
   several h = rw (le-ltb n 10 h)
 
 pub record ReadsBack (k n : ℕ) : Type 0 where
-  pub value : with_digits 0 (digits k n) ≡ some n
+  pub value : with_digits 0 (digits k n) ≡ Some n
   pub some_digits : 1 ≤ length (digits k n)
   pub few_digits : length (digits k n) ≤ k
 
@@ -54,7 +55,7 @@ module _ (k n : ℕ) where
   few : n < 10 → ReadsBack (suc k) n
   unfolding with_digits
   few h = record {
-    value = rw (one_digit k n h) (one_more 0 [] n h ∙ ap some (omega arith));
+    value = rw (one_digit k n h) (one_more 0 [] n h ∙ ap Some (omega arith));
     some_digits = rw (one_digit k n h) (omega arith);
     few_digits = rw (one_digit k n h) (omega arith);
   }
@@ -63,7 +64,7 @@ module _ (k n : ℕ) where
   more h r =
       let last : n % 10 < 10 = omega arith in
       record {
-        value = rw (several k n h) (one_more 0 (digits k (n / 10)) (n % 10) last ∙ rw r.value (ap some (omega arith)));
+        value = rw (several k n h) (one_more 0 (digits k (n / 10)) (n % 10) last ∙ rw r.value (ap Some (omega arith)));
         some_digits = rw (several k n h, length-append) (omega (arith, r.some_digits));
         few_digits = rw (several k n h, length-append) (omega (arith, r.few_digits));
       }
@@ -82,34 +83,13 @@ read_back n h =
     let r = reads_back 9 n (omega arith) in
     rw (le-leb _ _ r.some_digits, le-leb _ _ r.few_digits, r.value, le-leb n largest h)
 
--- ---- a number of k digits is printed alike with more
+-- ---- a number is printed as by itoa
 
-pub more_digits : (k n : ℕ) → n < 10 ^ suc k → digits (suc (suc k)) n ≡ digits (suc k) n
-more_digits zero n below =
-    let h : n < 10 = omega (arith, pow-suc 10 0, pow-zero 10) in
-    one_digit 1 n h ∙ sym (one_digit 0 n h)
-more_digits (suc k) n below = go (more_digits k (n / 10) (omega (arith, pow-suc 10 (suc k)))) (ltb n 10) refl
-  where
-    go : digits (suc (suc k)) (n / 10) ≡ digits (suc k) (n / 10) → (t : Bool) → ltb n 10 ≡ t → digits (suc (suc (suc k))) n ≡ digits (suc (suc k)) n
-    go r true e = one_digit (suc (suc k)) n (ltb-true n 10 e) ∙ sym (one_digit (suc k) n (ltb-true n 10 e))
-    go r false e =
-        let h = ltb-false n 10 e in
-        several (suc (suc k)) n h ∙ ap (λ (s : List ℕ). s ++ (digit_byte (n % 10) ∷ [])) r ∙ sym (several (suc k) n h)
-
--- ---- printing one digit, and one digit more
-
-module _ (n : ℕ) where
-  pub printed_digit : n < 10 → printed n ≡ digit_byte n ∷ []
-  unfolding printed
-  printed_digit h = one_digit 9 n h
-
-  pub printed_more : 10 ≤ n → n ≤ largest → printed n ≡ printed (n / 10) ++ (digit_byte (n % 10) ∷ [])
-  unfolding printed
-  printed_more h small = several 9 n h ∙ ap (λ (s : List ℕ). s ++ (digit_byte (n % 10) ∷ [])) (sym (more_digits 8 (n / 10) (omega arith)))
-
-  pub printed_length : n ≤ largest → (1 ≤ length (printed n)) × (length (printed n) ≤ 10)
-  unfolding printed
-  printed_length small = let r = reads_back 9 n (omega arith) in (r.some_digits, r.few_digits)
+pub printed_decimal : (n : ℕ) → n ≤ largest → printed n ≡ decimal n
+unfolding printed
+printed_decimal n h =
+    let few : length (decimal n) ≤ 10 = length-decimal-le 10 n (omega arith) (omega arith) (omega arith) in
+    decimal_from_appends digits (record { one = one_digit; more = several }) most_digits n (omega arith) few
 
 -- ---- reading a field byte after byte
 
@@ -122,7 +102,7 @@ module _ (n : ℕ) (s : List ℕ) (i : ℕ) (within : i < length s) where
   unfolding with_digits
   next_digit e = rw (add-one, drop-cons s i 0 within, e)
 
-  pub no_digit : is_digit (get_or s i 0) ≡ false → with_digits n (drop i s) ≡ none
+  pub no_digit : is_digit (get_or s i 0) ≡ false → with_digits n (drop i s) ≡ None
   unfolding with_digits
   no_digit e = rw (drop-cons s i 0 within, e)
 
@@ -136,11 +116,11 @@ digit_below n i b h ten e =
 -- ---- what a field is
 
 module _ (s : List ℕ) where
-  pub no_field : length s < 1 → number s ≡ none
+  pub no_field : length s < 1 → number s ≡ None
   unfolding number
   no_field h = rw (lt-leb 1 (length s) h)
 
-  pub long_field : 10 < length s → number s ≡ none
+  pub long_field : 10 < length s → number s ≡ None
   unfolding number
   long_field h = rw (lt-leb (length s) 10 h, and-false)
 
@@ -148,28 +128,28 @@ module _ (s : List ℕ) where
   unfolding number
   field_value h k = rw (le-leb 1 (length s) h, le-leb (length s) 10 k)
 
-pub all_digits : (n : ℕ) (s : List ℕ) (i : ℕ) → length s ≤ i → with_digits n (drop i s) ≡ some n
+pub all_digits : (n : ℕ) (s : List ℕ) (i : ℕ) → length s ≤ i → with_digits n (drop i s) ≡ Some n
 unfolding with_digits
 all_digits n s i h = rw (drop_of_length-le s h)
 
 -- ---- the number against the largest
 
-pub above_largest : (n : ℕ) → largest < n → up_to_largest (some n) ≡ none
+pub above_largest : (n : ℕ) → largest < n → up_to_largest (Some n) ≡ None
 above_largest n h = rw (lt-leb n largest h)
 
-pub within_largest : (n : ℕ) → n ≤ largest → up_to_largest (some n) ≡ some n
+pub within_largest : (n : ℕ) → n ≤ largest → up_to_largest (Some n) ≡ Some n
 within_largest n h = rw (le-leb n largest h)
 
 -- ---- what is known of a field that is a number
 
-some_is : {a b : ℕ} → ◌≡◌ {A = Option ℕ} (some a) (some b) → a ≡ b
+some_is : {a b : ℕ} → ◌≡◌ {A = Option ℕ} (Some a) (Some b) → a ≡ b
 some_is e = cc
 
-up_to : (o : Option ℕ) (n : ℕ) → up_to_largest o ≡ some n → n ≤ largest
-up_to none n e = let z : ◌≡◌ {A = ℕ} 0 1 = cc in absurd (omega arith)
-up_to (some m) n e = go (leb m largest) refl e
+up_to : (o : Option ℕ) (n : ℕ) → up_to_largest o ≡ Some n → n ≤ largest
+up_to None n e = let z : ◌≡◌ {A = ℕ} 0 1 = cc in absurd (omega arith)
+up_to (Some m) n e = go (leb m largest) refl e
   where
-    go : (b : Bool) → leb m largest ≡ b → cond b (some m) none ≡ some n → n ≤ largest
+    go : (b : Bool) → leb m largest ≡ b → cond b (Some m) None ≡ Some n → n ≤ largest
     go true l f = omega (arith, leb-true m largest l, some_is f)
     go false l f = let z : ◌≡◌ {A = ℕ} 0 1 = cc in absurd (omega arith)
 
@@ -180,7 +160,7 @@ number_laws field n = record { some_digit = λ e. (parts e).0; ten_digits = λ e
     fits : Bool
     fits = leb 1 (length field) && leb (length field) most_digits
 
-    go : (b : Bool) → fits ≡ b → cond b (up_to_largest (with_digits 0 field)) none ≡ some n
+    go : (b : Bool) → fits ≡ b → cond b (up_to_largest (with_digits 0 field)) None ≡ Some n
         → (1 ≤ length field) × (length field ≤ most_digits) × (n ≤ largest)
     go true l f = (
       leb-true 1 (length field) (and_left (leb 1 (length field)) (leb (length field) most_digits) l),
@@ -189,5 +169,5 @@ number_laws field n = record { some_digit = λ e. (parts e).0; ten_digits = λ e
     )
     go false l f = let z : ◌≡◌ {A = ℕ} 0 1 = cc in absurd (omega arith)
 
-    parts : cond fits (up_to_largest (with_digits 0 field)) none ≡ some n → (1 ≤ length field) × (length field ≤ most_digits) × (n ≤ largest)
+    parts : cond fits (up_to_largest (with_digits 0 field)) None ≡ Some n → (1 ≤ length field) × (length field ≤ most_digits) × (n ≤ largest)
     parts e = go fits refl e

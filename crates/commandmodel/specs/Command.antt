@@ -1,6 +1,6 @@
 -- Which lines are commands, and which commands they are. Document 01, "Program lots".
-use Rattle.std.specs.Prelude.{ℕ, ◌%◌, ◌*◌, Bool, cond, ◌&&◌, List, [], ◌∷◌, length, get_or, leb, eqb}
-use Rattle.std.proofs.Math.Option.{Option, none, some}
+use Rattle.std.specs.Prelude.{ℕ, ◌%◌, ◌*◌, Bool, cond, ◌&&◌, List, [], ◌∷◌, length, get_or, leb, eqb, Option, None, Some}
+use Rattle.std.specs.List.{slice_split}
 use Rattle.commandmodel.specs.Decimal.{number}
 
 -- ---- the fields of a line, parted by one space
@@ -8,26 +8,20 @@ use Rattle.commandmodel.specs.Decimal.{number}
 abbrev pub space : ℕ
 space = 32
 
--- a byte more at the front of the first field
-abbrev pub in_front : ℕ → List (List ℕ) → List (List ℕ)
-in_front b [] = (b ∷ []) ∷ []
-in_front b (f ∷ fs) = (b ∷ f) ∷ fs
-
 -- two spaces in a row part an empty field, which is neither a letter nor a number
-unfoldable pub fields : List ℕ → List (List ℕ)
-fields [] = [] ∷ []
-fields (b ∷ bs) = cond (eqb b space) ([] ∷ fields bs) (in_front b (fields bs))
+abbrev pub fields : List ℕ → List (List ℕ)
+fields line = slice_split (λ b. eqb b space) line
 
 -- ---- the numbers after the letter
 
 abbrev pub and_then : Option ℕ → Option (List ℕ) → Option (List ℕ)
-and_then none ns = none
-and_then (some n) none = none
-and_then (some n) (some ns) = some (n ∷ ns)
+and_then None ns = None
+and_then (Some n) None = None
+and_then (Some n) (Some ns) = Some (n ∷ ns)
 
 -- none if a field is no number
 unfoldable pub numbers : List (List ℕ) → Option (List ℕ)
-numbers [] = some []
+numbers [] = Some []
 numbers (f ∷ fs) = and_then (number f) (numbers fs)
 
 -- ---- the commands
@@ -70,8 +64,8 @@ forms =
     []
 
 abbrev pub by_letter : List Form → ℕ → List ℕ → Option Command
-by_letter [] b ns = none
-by_letter (f ∷ fs) b ns = cond (eqb b f.letter) (cond (f.takes (length ns)) (some (f.says ns)) none) (by_letter fs b ns)
+by_letter [] b ns = None
+by_letter (f ∷ fs) b ns = cond (eqb b f.letter) (cond (f.takes (length ns)) (Some (f.says ns)) None) (by_letter fs b ns)
 
 -- ---- a line
 
@@ -80,15 +74,15 @@ longest_line = 255
 
 -- the first field is one letter, and the others are numbers
 abbrev pub of_letter : List ℕ → Option (List ℕ) → Option Command
-of_letter letter none = none
-of_letter [] (some ns) = none
-of_letter (b ∷ []) (some ns) = by_letter forms b ns
-of_letter (b ∷ c ∷ bs) (some ns) = none
+of_letter letter None = None
+of_letter [] (Some ns) = None
+of_letter (b ∷ []) (Some ns) = by_letter forms b ns
+of_letter (b ∷ c ∷ bs) (Some ns) = None
 
 abbrev pub of_fields : List (List ℕ) → Option Command
-of_fields [] = none
+of_fields [] = None
 of_fields (letter ∷ rest) = of_letter letter (numbers rest)
 
 -- the command that a line is, without the byte 10; none if it is no command
 unfoldable pub command : List ℕ → Option Command
-command line = cond (leb (length line) longest_line) (of_fields (fields line)) none
+command line = cond (leb (length line) longest_line) (of_fields (fields line)) None

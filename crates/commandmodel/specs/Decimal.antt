@@ -1,6 +1,5 @@
 -- A decimal number as bytes. Document 01, "Program lots": 1 to 10 digits up to 4,294,967,295.
-use Rattle.std.specs.Prelude.{ℕ, zero, suc, ◌+◌, ◌-◌, ◌*◌, ◌/◌, ◌%◌, ◌≤◌, ◌≡◌, Bool, cond, ◌&&◌, List, [], ◌∷◌, ◌++◌, length, leb, ltb}
-use Rattle.std.proofs.Math.Option.{Option, none, some}
+use Rattle.std.specs.Prelude.{ℕ, zero, suc, ◌+◌, ◌-◌, ◌*◌, ◌/◌, ◌%◌, ◌≤◌, ◌≡◌, Bool, cond, ◌&&◌, List, [], ◌∷◌, ◌++◌, length, leb, ltb, Option, None, Some}
 use Rattle.sheetmodel.specs.Layout.{largest}
 
 -- ---- a number read
@@ -21,16 +20,16 @@ with_digit n b = 10 * n + (b - zero_byte)
 
 -- the number n with all these digits more; none if a byte is no digit
 unfoldable pub with_digits : ℕ → List ℕ → Option ℕ
-with_digits n [] = some n
-with_digits n (b ∷ bs) = cond (is_digit b) (with_digits (with_digit n b) bs) none
+with_digits n [] = Some n
+with_digits n (b ∷ bs) = cond (is_digit b) (with_digits (with_digit n b) bs) None
 
 abbrev pub up_to_largest : Option ℕ → Option ℕ
-up_to_largest none = none
-up_to_largest (some n) = cond (leb n largest) (some n) none
+up_to_largest None = None
+up_to_largest (Some n) = cond (leb n largest) (Some n) None
 
 -- the number that a field is; none if it is no number
 unfoldable pub number : List ℕ → Option ℕ
-number field = cond (leb 1 (length field) && leb (length field) most_digits) (up_to_largest (with_digits 0 field)) none
+number field = cond (leb 1 (length field) && leb (length field) most_digits) (up_to_largest (with_digits 0 field)) None
 
 -- ---- a number printed
 
@@ -48,11 +47,11 @@ printed n = digits most_digits n
 -- ---- a number printed is read back as itself: proved in proofs/Digits.antt
 
 abbrev pub ReadBack : Type 0
-ReadBack = (n : ℕ) → n ≤ largest → number (printed n) ≡ some n
+ReadBack = (n : ℕ) → n ≤ largest → number (printed n) ≡ Some n
 
 -- ---- a field that is a number has 1 to 10 digits, and is no number that a word cannot hold: proved in proofs/Digits.antt
 
 pub record NumberLaws (field : List ℕ) (n : ℕ) : Type 0 where
-  pub some_digit : number field ≡ some n → 1 ≤ length field
-  pub ten_digits : number field ≡ some n → length field ≤ most_digits
-  pub bounded : number field ≡ some n → n ≤ largest
+  pub some_digit : number field ≡ Some n → 1 ≤ length field
+  pub ten_digits : number field ≡ Some n → length field ≤ most_digits
+  pub bounded : number field ≡ Some n → n ≤ largest

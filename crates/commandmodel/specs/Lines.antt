@@ -1,8 +1,12 @@
 -- The lines of an input, and the replies to all of them. Document 01, "Program lots".
 use Rattle.std.specs.Prelude.{ℕ, cond, List, [], ◌∷◌, ◌++◌, eqb}
 use Rattle.sheetmodel.specs.Calls.{Outcome}
-use Rattle.commandmodel.specs.Command.{in_front}
 use Rattle.commandmodel.specs.Printed.{end_of_line, answer}
+
+-- a byte more at the front of the first line
+abbrev pub in_front : ℕ → List (List ℕ) → List (List ℕ)
+in_front b [] = (b ∷ []) ∷ []
+in_front b (l ∷ ls) = (b ∷ l) ∷ ls
 
 -- lines end in byte 10; bytes after the last byte 10, if any, are a line
 unfoldable pub lines : List ℕ → List (List ℕ)

@@ -1,14 +1,12 @@
 -- What is printed for each reply: a line with a word and numbers. Document 01, "Program lots".
-use Rattle.std.specs.Prelude.{ℕ, List, [], ◌∷◌, ◌++◌}
-use Rattle.std.proofs.Math.Option.{Option, none, some}
+use Rattle.std.specs.Prelude.{ℕ, List, [], ◌∷◌, ◌++◌, flat_map, Option, None, Some, Result, Ok, Err}
 use Rattle.plan.specs.declared.stage.Answer.{Answer}
 use Rattle.plan.specs.declared.stage.Answer.TheVariants.{GoOn, Accept, Reject}
-use Rattle.sheetmodel.specs.declared.reply.Done.{Done}
-use Rattle.sheetmodel.specs.declared.reply.Done.TheVariants as done
-use Rattle.sheetmodel.specs.declared.reply.Looked.{Looked}
-use Rattle.sheetmodel.specs.declared.reply.Looked.TheVariants as looked
-use Rattle.sheetmodel.specs.declared.reply.Tallied.{Tallied}
-use Rattle.sheetmodel.specs.declared.reply.Tallied.TheVariants as tallied
+use Rattle.plan.specs.declared.refusal.Refusal.{Refusal}
+use Rattle.plan.specs.declared.refusal.Refusal.TheVariants.{Line}
+use Rattle.plan.specs.Refusal.{number}
+use Rattle.sheetmodel.specs.declared.reply.Shown.{Shown}
+use Rattle.sheetmodel.specs.declared.reply.Totals.{Totals}
 use Rattle.sheetmodel.specs.Calls.{Outcome, fresh, open_lot, inspect, strike, close, look, tally}
 use Rattle.sheetmodel.specs.Offices.{no_shares}
 use Rattle.commandmodel.specs.Decimal.{printed}
@@ -37,9 +35,8 @@ state_word Reject = 114 ∷ 101 ∷ 106 ∷ 101 ∷ 99 ∷ 116 ∷ 101 ∷ 100 �
 -- ---- the replies
 
 -- the numbers, each after a space
-unfoldable pub spaced : List ℕ → List ℕ
-spaced [] = []
-spaced (n ∷ ns) = (command.space ∷ printed n) ++ spaced ns
+abbrev pub spaced : List ℕ → List ℕ
+spaced ns = flat_map (λ n. command.space ∷ printed n) ns
 
 abbrev pub end_of_line : ℕ
 end_of_line = 10
@@ -51,43 +48,42 @@ longest_reply = 65
 unfoldable pub reply_line : List ℕ → List ℕ → List ℕ
 reply_line word ns = word ++ (spaced ns ++ (end_of_line ∷ []))
 
-abbrev pub refusal : ℕ → List ℕ
-refusal n = reply_line no_word (n ∷ [])
+abbrev pub refusal : Refusal → List ℕ
+refusal r = reply_line no_word (number r ∷ [])
 
-abbrev pub done_printed : Done → List ℕ
-done_printed done.Ok = reply_line ok_word []
-done_printed (done.Refused n) = refusal n
+-- what is granted: nothing, a lot's numbers, or the totals
+abbrev pub done_line : Unit {0} → List ℕ
+done_line done = reply_line ok_word []
 
-abbrev pub look_printed : Looked → List ℕ
-look_printed (looked.Shown s) = reply_line (state_word s.answer) (s.units ∷ s.good ∷ s.marginal ∷ s.bad ∷ s.blanks ∷ [])
-look_printed (looked.Refused n) = refusal n
+abbrev pub look_line : Shown → List ℕ
+look_line s = reply_line (state_word s.answer) (s.units ∷ s.good ∷ s.marginal ∷ s.bad ∷ s.blanks ∷ [])
 
-abbrev pub tally_printed : Tallied → List ℕ
-tally_printed (tallied.Totals t) = reply_line tally_word (t.accepted ∷ t.rejected ∷ t.good ∷ t.marginal ∷ t.bad ∷ [])
-tally_printed (tallied.Refused n) = refusal n
+abbrev pub tally_line : Totals → List ℕ
+tally_line t = reply_line tally_word (t.accepted ∷ t.rejected ∷ t.good ∷ t.marginal ∷ t.bad ∷ [])
+
+abbrev pub reply_printed : {T : Type 0} → (T → List ℕ) → Result T Refusal → List ℕ
+reply_printed line (Ok value) = line value
+reply_printed line (Err r) = refusal r
 
 -- ---- a line's reply, and the words that it leaves
 
-abbrev pub in_bytes : {R : Type 0} → (R → List ℕ) → Outcome R → Outcome (List ℕ)
-in_bytes bytes o = record { reply = bytes o.reply; words = o.words }
+abbrev pub in_bytes : {T : Type 0} → (T → List ℕ) → Outcome (Result T Refusal) → Outcome (List ℕ)
+in_bytes line o = record { reply = reply_printed line o.reply; words = o.words }
 
 -- each command makes its call
 unfoldable pub performed : command.Command → List ℕ → Outcome (List ℕ)
-performed (command.fresh plan) w = in_bytes done_printed (fresh plan no_shares w)
-performed (command.opening lot) w = in_bytes done_printed (open_lot lot w)
-performed (command.inspecting lot class) w = in_bytes done_printed (inspect lot class w)
-performed (command.striking lot) w = in_bytes done_printed (strike lot w)
-performed (command.looking lot) w = in_bytes look_printed (look lot w)
-performed (command.closing lot) w = in_bytes done_printed (close lot w)
-performed command.tallying w = in_bytes tally_printed (tally w)
-
-abbrev pub not_a_command : ℕ
-not_a_command = 16
+performed (command.fresh plan) w = in_bytes done_line (fresh plan no_shares w)
+performed (command.opening lot) w = in_bytes done_line (open_lot lot w)
+performed (command.inspecting lot class) w = in_bytes done_line (inspect lot class w)
+performed (command.striking lot) w = in_bytes done_line (strike lot w)
+performed (command.looking lot) w = in_bytes look_line (look lot w)
+performed (command.closing lot) w = in_bytes done_line (close lot w)
+performed command.tallying w = in_bytes tally_line (tally w)
 
 -- any other line gets 16 and makes no call
 abbrev pub answered : Option command.Command → List ℕ → Outcome (List ℕ)
-answered none w = record { reply = refusal not_a_command; words = w }
-answered (some c) w = performed c w
+answered None w = record { reply = refusal Line; words = w }
+answered (Some c) w = performed c w
 
 unfoldable pub answer : List ℕ → List ℕ → Outcome (List ℕ)
 answer line w = answered (command.command line) w

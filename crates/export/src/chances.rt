@@ -1,13 +1,29 @@
 // The chance of acceptance, as whole numbers of 2^-40 and as floats, that of a lot of known size, and the expected
 // number of units, as whole numbers of 2^-30 and as floats. Document 01, "Chance of acceptance" and "Refused";
 // document 02, changes 2 and 6.
-ghost use Rattle.std.specs.Prelude.{◌≡◌, length};
+ghost use Rattle.std.specs.Prelude.{◌≡◌, [], ◌∷◌, length, MatchResult};
+ghost use Rattle.plan.specs.Refusal.{number as refusal_number};
 ghost use Rattle.chance.specs.Reply.{weights_of, bounds_reply, chart_reply, chart_values, chance_answer, chart_answer, ExactChart, Keeps};
 ghost use Rattle.chance.specs.Lot.{lot_answer, LotKeeps};
 ghost use Rattle.chance.specs.Units.{units_answer, units_chart_answer, ExactUnitsChart};
 ghost use Rattle.export.specs.Returned.{number, left, left_floats};
 
-use chance::{BoundsAnswer, ChartAnswer};
+use chance::Interval;
+use plan::Refusal;
+
+// Low and high into `out`, and 0; or the refusal's number.
+fn low_and_high<T: Copy>(answer: Result<Interval<T>, Refusal>, out: &mut [T; 2]) -> u32
+    ensures { MatchResult answer (λ b. (result ≡ 0) × (out.new ≡ b.low ∷ b.high ∷ [])) (λ r. (result ≡ refusal_number r) × (out.new ≡ out.old)) }
+{
+    match answer {
+        Ok(interval) => {
+            out[0] = interval.low;
+            out[1] = interval.high;
+            0
+        }
+        Err(refusal) => refusal.number(),
+    }
+}
 
 // Out: low, high.
 #[unsafe(no_mangle)]
@@ -23,13 +39,7 @@ pub extern "C" fn haq_chance(
     ensures out_after { out.new ≡ left (bounds_reply (chance_answer plan.now (weights_of w0 w1 w2) (length scratch.old))) out.old }
     ensures keeps { Keeps plan.now (weights_of w0 w1 w2) scratch.old scratch.new }
 {
-    match chance::chance(plan, w0, w1, w2, scratch) {
-        BoundsAnswer::Refused(n) => n,
-        BoundsAnswer::Pair(b) => {
-            *out = [b.low, b.high];
-            0
-        }
-    }
+    low_and_high(chance::chance(plan, w0, w1, w2, scratch), out)
 }
 
 // Out: low / 2^40, high / 2^40, both exact.
@@ -47,13 +57,7 @@ pub extern "C" fn haq_chart(
     ensures exact_chart { ExactChart plan.now (weights_of w0 w1 w2) (chart_answer plan.now (weights_of w0 w1 w2) (length scratch.old)) }
     ensures keeps { Keeps plan.now (weights_of w0 w1 w2) scratch.old scratch.new }
 {
-    match chance::chart(plan, w0, w1, w2, scratch) {
-        ChartAnswer::Refused(n) => n,
-        ChartAnswer::Pair(c) => {
-            *out = [c.low, c.high];
-            0
-        }
-    }
+    low_and_high(chance::chart(plan, w0, w1, w2, scratch), out)
 }
 
 // Out: low, high.
@@ -70,13 +74,7 @@ pub extern "C" fn haq_lot_chance(
     ensures out_after { out.new ≡ left (bounds_reply (lot_answer plan.now (weights_of good marginal bad) (length scratch.old))) out.old }
     ensures lot_keeps { LotKeeps plan.now (weights_of good marginal bad) scratch.old scratch.new }
 {
-    match chance::lot_chance(plan, good, marginal, bad, scratch) {
-        BoundsAnswer::Refused(n) => n,
-        BoundsAnswer::Pair(b) => {
-            *out = [b.low, b.high];
-            0
-        }
-    }
+    low_and_high(chance::lot_chance(plan, good, marginal, bad, scratch), out)
 }
 
 // Out: low, high, in units of 2^-30.
@@ -93,13 +91,7 @@ pub extern "C" fn haq_units(
     ensures out_after { out.new ≡ left (bounds_reply (units_answer plan.now (weights_of w0 w1 w2) (length scratch.old))) out.old }
     ensures keeps { Keeps plan.now (weights_of w0 w1 w2) scratch.old scratch.new }
 {
-    match chance::units(plan, w0, w1, w2, scratch) {
-        BoundsAnswer::Refused(n) => n,
-        BoundsAnswer::Pair(b) => {
-            *out = [b.low, b.high];
-            0
-        }
-    }
+    low_and_high(chance::units(plan, w0, w1, w2, scratch), out)
 }
 
 // Out: low / 2^30, high / 2^30, both exact.
@@ -117,11 +109,5 @@ pub extern "C" fn haq_units_chart(
     ensures exact_units_chart { ExactUnitsChart plan.now (weights_of w0 w1 w2) (units_chart_answer plan.now (weights_of w0 w1 w2) (length scratch.old)) }
     ensures keeps { Keeps plan.now (weights_of w0 w1 w2) scratch.old scratch.new }
 {
-    match chance::units_chart(plan, w0, w1, w2, scratch) {
-        ChartAnswer::Refused(n) => n,
-        ChartAnswer::Pair(c) => {
-            *out = [c.low, c.high];
-            0
-        }
-    }
+    low_and_high(chance::units_chart(plan, w0, w1, w2, scratch), out)
 }

@@ -5,14 +5,15 @@ ghost use Rattle.sheetmodel.specs.Estimate.{estimate};
 ghost use Rattle.sheetmodel.specs.Reply.{done_reply, look_reply, tally_reply, estimate_reply};
 ghost use Rattle.export.specs.Returned.{number, left};
 
-use sheet::{Done, Estimated, Looked, Tallied};
+use plan::Refusal;
 
-fn number_of(done: Done) -> u32
+// 0 where the call is granted, else the refusal's number.
+fn number_of(done: Result<(), Refusal>) -> u32
     ensures { result ≡ number (done_reply done) }
 {
     match done {
-        Done::Ok => 0,
-        Done::Refused(n) => n,
+        Ok(()) => 0,
+        Err(refusal) => refusal.number(),
     }
 }
 
@@ -63,11 +64,10 @@ pub extern "C" fn haq_look(sheet: &[u32], lot: u32, out: &mut [u32; 6]) -> u32
     ensures out_after { out.new ≡ left (look_reply (look lot sheet.now).reply) out.old }
 {
     match sheet::look(sheet, lot) {
-        Looked::Refused(n) => n,
-        Looked::Shown(s) => {
-            let answer = s.answer;
+        Err(refusal) => refusal.number(),
+        Ok(s) => {
             *out = [
-                plan::state(answer),
+                s.answer.number(),
                 s.units,
                 s.good,
                 s.marginal,
@@ -86,8 +86,8 @@ pub extern "C" fn haq_tally(sheet: &[u32], out: &mut [u32; 5]) -> u32
     ensures out_after { out.new ≡ left (tally_reply (tally sheet.now).reply) out.old }
 {
     match sheet::tally(sheet) {
-        Tallied::Refused(n) => n,
-        Tallied::Totals(t) => {
+        Err(refusal) => refusal.number(),
+        Ok(t) => {
             *out = [t.accepted, t.rejected, t.good, t.marginal, t.bad];
             0
         }
@@ -101,8 +101,8 @@ pub extern "C" fn haq_estimate(sheet: &[u32], lot: u32, out: &mut [u64; 4]) -> u
     ensures out_after { out.new ≡ left (estimate_reply (estimate lot sheet.now).reply) out.old }
 {
     match sheet::estimate(sheet, lot) {
-        Estimated::Refused(n) => n,
-        Estimated::Estimate(e) => {
+        Err(refusal) => refusal.number(),
+        Ok(e) => {
             *out = [e.good, e.marginal, e.bad, e.over];
             0
         }

@@ -10,7 +10,8 @@ use lib.ListN.{length, take, replicate}
 use lib.Seq.{length-take-le, take-take}
 use Rattle.plan.specs.declared.stage.Answer.{Answer}
 use Rattle.plan.specs.declared.stage.Answer.TheVariants.{GoOn, Accept, Reject}
-use Rattle.plan.specs.Plan.{Stage, total}
+use Rattle.plan.specs.declared.stage.Stage.{Stage}
+use Rattle.plan.specs.Plan.{total}
 use Rattle.plan.specs.Counts.{counts}
 use Rattle.plan.specs.Stopping.{earliest}
 use Rattle.plan.specs.Sample.{Classes, verdict, AllHave, Rule, Stops, Faithful}

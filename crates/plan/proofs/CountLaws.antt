@@ -13,7 +13,8 @@ use Rattle.plan.specs.declared.counts.Counts.{Counts}
 use Rattle.plan.specs.declared.stage.Answer.TheVariants.{GoOn, Reject}
 use Rattle.plan.specs.declared.ways.Way.{Way}
 use Rattle.plan.specs.declared.ways.Way.TheVariants.{Staged, Earliest}
-use Rattle.plan.specs.Plan.{Stage, total, last_reject1, last_reject2}
+use Rattle.plan.specs.declared.stage.Stage.{Stage}
+use Rattle.plan.specs.Plan.{total, last_reject1, last_reject2}
 use Rattle.plan.specs.Counts.{units, nongood, add_units, counts}
 use Rattle.plan.specs.Stopping.{at_filled, completed, at_stage, staged, earliest, answer, only_reject, settled}
 use Rattle.plan.specs.Promise.{SameStage, rank, Worse, More}

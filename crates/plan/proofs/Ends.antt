@@ -11,7 +11,8 @@ use borrow.Author.Tests.{lt-ltb, le-ltb, le-leb, lt-leb}
 use Rattle.plan.specs.declared.counts.Counts.{Counts}
 use Rattle.plan.specs.declared.stage.Answer.{Answer}
 use Rattle.plan.specs.declared.stage.Answer.TheVariants.{GoOn, Accept, Reject}
-use Rattle.plan.specs.Plan.{Stage, total, End}
+use Rattle.plan.specs.declared.stage.Stage.{Stage}
+use Rattle.plan.specs.Plan.{total, End}
 use Rattle.plan.specs.Counts.{units, add_units}
 use Rattle.plan.specs.Stopping.{or_else, at_end, first_answer, at_filled, current}
 use Rattle.plan.specs.Promise.{rank}

@@ -12,7 +12,8 @@ use borrow.Author.Tests.{lt-ltb, le-ltb, eqb-true}
 use Rattle.plan.specs.declared.counts.Counts.{Counts}
 use Rattle.plan.specs.declared.stage.Answer.TheVariants.{GoOn, Reject}
 use Rattle.plan.specs.declared.ways.StageWay.TheVariants.{Uncurtailed, Semi, Full}
-use Rattle.plan.specs.Plan.{Stage, end_from}
+use Rattle.plan.specs.declared.stage.Stage.{Stage}
+use Rattle.plan.specs.Plan.{end_from}
 use Rattle.plan.specs.Counts.{units, nongood, nonbad}
 use Rattle.plan.specs.Stopping.{rejects, at_end, uncurtailed_at, semi_at, full_at, current, at_stage, staged}
 use Rattle.plan.proofs.Ends.{current_here, current_later}

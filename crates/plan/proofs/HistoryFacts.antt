@@ -9,7 +9,8 @@ use lib.Seq.{take-append-le, take-append_seam, take-length}
 use native.Mathlib.Nat.{eq-or-lt_of_le}
 use native.Mathlib.Omega.{arith}
 use Rattle.plan.specs.declared.stage.Answer.TheVariants.{GoOn}
-use Rattle.plan.specs.Plan.{Stage, total}
+use Rattle.plan.specs.declared.stage.Stage.{Stage}
+use Rattle.plan.specs.Plan.{total}
 use Rattle.plan.specs.Counts.{counts}
 use Rattle.plan.specs.Stopping.{earliest}
 use Rattle.plan.specs.Sample.{highest_class, Classes, Completion}

@@ -6,14 +6,14 @@ use native.Mathlib.Omega.{arith}
 use mathlib.Core.Path.{◌≡◌, refl, ◌∙◌}
 use mathlib.Core.Bool.{Bool, true, false, ◌&&◌, and-false, and-true}
 use mathlib.Core.List.{List, [], ◌∷◌}
-use lib.ListN.{length, get_or}
+use lib.ListN.{length}
 use lib.Dec.{leb}
 use borrow.Author.Tests.{leb-true, le-leb, lt-leb}
-use Rattle.plan.specs.Plan.{Stage, stages, first, total, marked, ahead, numbered, each, never_falls, last, row_rules, numbered_rules, marked_rules, rules}
+use Rattle.plan.specs.declared.stage.Stage.{Stage}
+use Rattle.plan.specs.Plan.{total, marked, ahead, numbered, each, never_falls, last, row_rules, numbered_rules, marked_rules, rules}
 use Rattle.plan.specs.Row.{marked_step}
 use Rattle.plan.proofs.Bools.{and_left, and_right, first_false, mid_false, both_true}
 use Rattle.plan.proofs.Rows.{r1, r2}
-use Rattle.plan.proofs.Stages.{after, second, stages_more, after_none, after_more}
 
 -- ---- a stage with acceptance numbers: the rules on such stages
 
@@ -39,7 +39,7 @@ module _ (s : Stage) (rest : List Stage) (m : marked s ≡ false) where
     unfolding numbered_rules row_rules
     rises2 e = search (and_left, and_right) depth 16
 
-    rules_numbered : rules before (s ∷ rest) ≡ numbered_rules before (s ∷ rest)
+    pub rules_numbered : rules before (s ∷ rest) ≡ numbered_rules before (s ∷ rest)
     unfolding rules each total
     rules_numbered = rw (none_ahead, all_numbered, add-zero before, le-leb 1 (length (s ∷ rest)) (omega arith), and-true)
         (absorbed (never_falls r1 (s ∷ rest)) (never_falls r2 (s ∷ rest)) (numbered_rules before (s ∷ rest)) rises1 rises2)
@@ -65,7 +65,7 @@ module _ (s : Stage) (m : marked s ≡ true) where
   unfolding numbered
   numbered_more rest = rw m
 
-  rules_last : (before : ℕ) → rules before (s ∷ []) ≡ false
+  pub rules_last : (before : ℕ) → rules before (s ∷ []) ≡ false
   unfolding rules numbered
   rules_last before = rw m (simp and-false)
 
@@ -112,39 +112,24 @@ one_numbered s n = go (marked s) refl
     go true m = absurd (omega (arith, rw m at n))
     go false m = m
 
--- ---- the rules at the first stage of a run of words
+-- ---- the rules at the first of some stages
 
-too_many : (before : ℕ) (s : Stage) (rest : List Stage) → 1000 < before + s.size → rules before (s ∷ rest) ≡ false
+pub too_many : (before : ℕ) (s : Stage) (rest : List Stage) → 1000 < before + s.size → rules before (s ∷ rest) ≡ false
 unfolding rules numbered_rules total
 too_many before s rest h =
     let p : List Stage = s ∷ rest in
     simp (lt-leb (before + total (ahead p) + total (numbered p)) 1000 (omega (arith, parts p)), and-false)
 
-module _ (before : ℕ) (w : List ℕ) (whole : 5 ≤ length w) where
-  pub at_numbered : marked (first w) ≡ false → rules before (stages w) ≡ numbered_rules before (stages w)
-  at_numbered m = rw (stages_more w whole) (rules_numbered (first w) (stages (after w)) m before)
-
-  pub last_marked : marked (first w) ≡ true → length w < 10 → rules before (stages w) ≡ false
-  last_marked m h = rw (stages_more w whole, after_none w h) (rules_last (first w) m before)
-
-  pub too_many_marked : 1000 < before + get_or w 0 0 → rules before (stages w) ≡ false
-  unfolding first
-  too_many_marked h = rw (stages_more w whole) (too_many before (first w) (stages (after w)) h)
-
--- a marked stage with one after it
-module _ (before : ℕ) (w : List ℕ) (m : marked (first w) ≡ true) (more : 10 ≤ length w) where
+-- a marked stage with the stage t after it
+module _ (before : ℕ) (s t : Stage) (rest : List Stage) (m : marked s ≡ true) where
   abbrev step : Bool
-  step = marked_step (get_or w 2 0) (get_or w 4 0) (get_or w 7 0) (get_or w 9 0)
+  step = marked_step s.reject1 s.reject2 t.reject1 t.reject2
 
-  at_marked : rules before (stages w) ≡ (leb 1 (get_or w 0 0) && step && rules (before + get_or w 0 0) (stages (after w)))
-  unfolding first
-  at_marked = rw (stages_more w (omega arith), after_more w more) (rules_marked (first w) m before (second w) (stages (after (after w))))
+  pub no_units : s.size < 1 → rules before (s ∷ t ∷ rest) ≡ false
+  no_units h = rules_marked s m before t rest ∙ first_false (leb 1 s.size) step _ (lt-leb 1 s.size h)
 
-  pub no_units_marked : get_or w 0 0 < 1 → rules before (stages w) ≡ false
-  no_units_marked h = at_marked ∙ first_false (leb 1 (get_or w 0 0)) step _ (lt-leb 1 (get_or w 0 0) h)
+  pub step_fails : step ≡ false → rules before (s ∷ t ∷ rest) ≡ false
+  step_fails e = rules_marked s m before t rest ∙ mid_false (leb 1 s.size) step _ e
 
-  pub step_fails : step ≡ false → rules before (stages w) ≡ false
-  step_fails e = at_marked ∙ mid_false (leb 1 (get_or w 0 0)) step _ e
-
-  pub step_holds : 1 ≤ get_or w 0 0 → step ≡ true → rules before (stages w) ≡ rules (before + get_or w 0 0) (stages (after w))
-  step_holds h e = at_marked ∙ both_true (leb 1 (get_or w 0 0)) step _ (le-leb 1 (get_or w 0 0) h) e
+  pub step_holds : 1 ≤ s.size → step ≡ true → rules before (s ∷ t ∷ rest) ≡ rules (before + s.size) (t ∷ rest)
+  step_holds h e = rules_marked s m before t rest ∙ both_true (leb 1 s.size) step _ (le-leb 1 s.size h) e

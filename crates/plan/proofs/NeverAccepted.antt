@@ -14,7 +14,8 @@ use Rattle.plan.specs.declared.counts.Counts.{Counts}
 use Rattle.plan.specs.declared.stage.Answer.TheVariants.{GoOn, Accept, Reject}
 use Rattle.plan.specs.declared.ways.StageWay.{StageWay}
 use Rattle.plan.specs.declared.ways.StageWay.TheVariants.{Uncurtailed, Semi, Full}
-use Rattle.plan.specs.Plan.{Stage, total, marked, ahead}
+use Rattle.plan.specs.declared.stage.Stage.{Stage}
+use Rattle.plan.specs.Plan.{total, marked, ahead}
 use Rattle.plan.specs.Counts.{units, nongood, nonbad}
 use Rattle.plan.specs.Stopping.{rejects, accepts, decide, at_end, uncurtailed_at, semi_at, full_at, at_stage, current, staged}
 use Rattle.plan.specs.Promise.{NeverAccepted}

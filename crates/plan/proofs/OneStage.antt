@@ -14,7 +14,8 @@ use Rattle.plan.specs.declared.counts.Counts.{Counts}
 use Rattle.plan.specs.declared.stage.Answer.{Answer}
 use Rattle.plan.specs.declared.stage.Answer.TheVariants.{GoOn, Accept, Reject}
 use Rattle.plan.specs.declared.ways.StageWay.TheVariants.{Full}
-use Rattle.plan.specs.Plan.{Stage, stages, first, total, marked, ahead, numbered, admitted, each, apart, last}
+use Rattle.plan.specs.declared.stage.Stage.{Stage}
+use Rattle.plan.specs.Plan.{stages, first, total, marked, ahead, numbered, admitted, each, apart, last}
 use Rattle.plan.specs.Counts.{units, nongood, nonbad, add_units}
 use Rattle.plan.specs.Stopping.{or_else, rejects, accepts, decide, at_end, full_at, at_filled, settled, staged, earliest, at_stage, first_answer, completed, only_reject}
 use Rattle.plan.specs.Promise.{OneStage}
@@ -25,7 +26,7 @@ use Rattle.plan.proofs.StageTests.{rejects_from, rejects_reaches, rejects_same, 
 use Rattle.plan.proofs.Ends.{current_here, current_past, end_past, end_due}
 use Rattle.plan.proofs.Marked.{none_ahead, all_numbered, one_numbered}
 use Rattle.plan.proofs.Limits.{Sound, Decides, Limits, tests, limits}
-use Rattle.plan.proofs.Stages.{stages_more, after_none}
+use Rattle.plan.proofs.Stages.{stages_one}
 use Rattle.plan.proofs.Counting.{add_good, add_bad}
 
 or_else_none : (a : Answer) → or_else a GoOn ≡ a
@@ -147,7 +148,7 @@ one_stage_words w e n =
     let t = tests w e in
     let s : Stage = first w in
     let whole : 5 ≤ length w = omega arith in
-    let only : stages w ≡ first w ∷ [] = stages_more w whole ∙ ap (λ (p : List Stage). first w ∷ p) (after_none w (omega arith)) in
+    let only : stages w ≡ first w ∷ [] = stages_one w (omega arith) in
     let unmarked : marked (first w) ≡ false = one_numbered (first w) (leb-true 1 (length (numbered (first w ∷ []))) (rw only at t.some_numbered)) in
     let all : numbered (stages w) ≡ first w ∷ [] = ap numbered only ∙ all_numbered (first w) [] unmarked in
     let none : ahead (stages w) ≡ [] = ap ahead only ∙ none_ahead (first w) [] unmarked in

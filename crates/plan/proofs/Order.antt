@@ -8,7 +8,7 @@ use native.Mathlib.Omega.{arith}
 use Rattle.plan.specs.declared.counts.Counts.{Counts}
 use Rattle.plan.specs.declared.stage.Answer.{Answer}
 use Rattle.plan.specs.declared.stage.Answer.TheVariants.{GoOn, Accept, Reject}
-use Rattle.plan.specs.Plan.{Stage}
+use Rattle.plan.specs.declared.stage.Stage.{Stage}
 use Rattle.plan.specs.Counts.{nongood}
 use Rattle.plan.specs.Stopping.{or_else, rejects, accepts, decide, at_end, only_reject, settled}
 use Rattle.plan.specs.Promise.{rank}

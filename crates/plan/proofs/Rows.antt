@@ -5,7 +5,8 @@ use mathlib.Core.Path.{◌≡◌, refl, sym}
 use mathlib.Core.Bool.{Bool, true, false, cond, ◌&&◌, and-false, and-true}
 use mathlib.Core.List.{List, [], ◌∷◌}
 use lib.Dec.{leb, ltb}
-use Rattle.plan.specs.Plan.{Stage, total, each, never_falls, last_step_rises, apart, below_ends, last, last_reject1, row_rules, numbered_rules}
+use Rattle.plan.specs.declared.stage.Stage.{Stage}
+use Rattle.plan.specs.Plan.{total, each, never_falls, last_step_rises, apart, below_ends, last, last_reject1, row_rules, numbered_rules}
 use Rattle.plan.specs.Row.{row_step, row_end}
 
 -- the four rows

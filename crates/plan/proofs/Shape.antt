@@ -10,7 +10,8 @@ use lib.ListN.{length, get_or}
 use lib.Seq.{get_or-append-add}
 use lib.Dec.{leb}
 use borrow.Author.Tests.{leb-true, eqb-true}
-use Rattle.plan.specs.Plan.{Stage, stages, first, total, ahead, numbered, last, last_reject1, last_reject2, admitted}
+use Rattle.plan.specs.declared.stage.Stage.{Stage}
+use Rattle.plan.specs.Plan.{stages, first, total, ahead, numbered, last, last_reject1, last_reject2, admitted}
 use Rattle.plan.specs.Promise.{Shape}
 use Rattle.plan.proofs.Ends.{Each, each_map}
 use Rattle.plan.proofs.Rows.{r1, r2}

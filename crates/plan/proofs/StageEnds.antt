@@ -12,7 +12,8 @@ use lib.Seq.{length-take-le, take-take}
 use lib.Dec.{ltb}
 use borrow.Author.Tests.{lt-ltb, le-ltb}
 use Rattle.plan.specs.declared.stage.Answer.TheVariants.{GoOn}
-use Rattle.plan.specs.Plan.{Stage, total, End, end_below, end_from}
+use Rattle.plan.specs.declared.stage.Stage.{Stage}
+use Rattle.plan.specs.Plan.{total, End, end_below, end_from}
 use Rattle.plan.specs.Counts.{counts}
 use Rattle.plan.specs.Stopping.{earliest}
 use Rattle.plan.specs.Promise.{SameStage}

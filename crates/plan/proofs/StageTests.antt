@@ -10,7 +10,8 @@ use mathlib.Core.Bool.{Bool, true, false, not, ◌&&◌, ◌||◌, or-true, and-
 use lib.Dec.{leb}
 use borrow.Author.Tests.{leb-true, leb-false, le-leb, lt-leb, ne_eqb}
 use Rattle.plan.specs.declared.counts.Counts.{Counts}
-use Rattle.plan.specs.Plan.{Stage, not_permitted, marked}
+use Rattle.plan.specs.declared.stage.Stage.{Stage}
+use Rattle.plan.specs.Plan.{not_permitted, marked}
 use Rattle.plan.specs.Counts.{nongood}
 use Rattle.plan.specs.Stopping.{rejects, accepts}
 use Rattle.plan.proofs.Bools.{true_not_false, and_left, and_right}

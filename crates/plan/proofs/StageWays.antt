@@ -16,7 +16,8 @@ use Rattle.plan.specs.declared.stage.Answer.{Answer}
 use Rattle.plan.specs.declared.stage.Answer.TheVariants.{GoOn, Accept, Reject}
 use Rattle.plan.specs.declared.ways.StageWay.{StageWay}
 use Rattle.plan.specs.declared.ways.StageWay.TheVariants.{Uncurtailed, Semi, Full}
-use Rattle.plan.specs.Plan.{Stage, total}
+use Rattle.plan.specs.declared.stage.Stage.{Stage}
+use Rattle.plan.specs.Plan.{total}
 use Rattle.plan.specs.Counts.{units, nongood, nonbad, counts}
 use Rattle.plan.specs.Stopping.{or_else, rejects, accepts, decide, at_end, uncurtailed_at, semi_at, full_at, at_stage, current, staged, first_answer}
 use Rattle.plan.specs.Sample.{verdict, AllHave, Stops}

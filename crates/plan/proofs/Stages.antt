@@ -1,39 +1,20 @@
--- How `stages` unfolds along a run of words: the first five, and what the part `&plan[5..]` holds. Assumes nothing.
-use Prim.Native.Nat.{ℕ, ◌+◌, ◌-◌, ◌*◌, ◌≤◌, ◌<◌}
+-- How `stages` unfolds along a run of words: the first five, and the words after them. Assumes nothing.
+use Prim.Native.Nat.{ℕ, ◌+◌, ◌*◌, ◌≤◌, ◌<◌}
 use native.Mathlib.Omega.{arith}
-use mathlib.Core.Path.{◌≡◌, refl, ap, ◌∙◌}
+use mathlib.Core.Path.{◌≡◌, refl, sym, ap, ◌∙◌}
 use mathlib.Core.List.{List, [], ◌∷◌}
-use lib.ListN.{length, get_or, take, drop, length-drop}
-use borrow.Author.Rules.{part_to_end}
-use Rattle.plan.specs.Plan.{Stage, stages, first, total}
+use lib.ListN.{length, take, drop, length-drop}
+use Rattle.plan.specs.declared.stage.Stage.{Stage}
+use Rattle.plan.specs.Plan.{stages, first, FirstAndRest, total}
 
--- the words of `&plan[5..]`, as the borrow checker has them
-abbrev pub after : List ℕ → List ℕ
-after w = take (length w - 5) (drop 5 w)
-
-pub length_after : (w : List ℕ) → length (after w) ≡ length w - 5
-length_after w = ap length (part_to_end w 5) ∙ length-drop 5 w
-
--- the second stage of a run of ten words or more
-abbrev pub second : List ℕ → Stage
-second w = record { size = get_or w 5 0; accept1 = get_or w 6 0; reject1 = get_or w 7 0; accept2 = get_or w 8 0; reject2 = get_or w 9 0 }
-
--- five words or more
-record Five (w : List ℕ) : Type 0 where
-  stages_are : stages w ≡ first w ∷ stages (drop 5 w)
-  next_is : first (drop 5 w) ≡ second w
-
-five : (w : List ℕ) → 5 ≤ length w → Five w
+pub stages_more : (w : List ℕ) → 5 ≤ length w → stages w ≡ first w ∷ stages (drop 5 w)
 unfolding stages first
-five (n ∷ a1 ∷ r1 ∷ a2 ∷ r2 ∷ rest) h = record { stages_are = refl; next_is = refl }
-five [] h = absurd (omega arith)
-five (a ∷ []) h = absurd (omega arith)
-five (a ∷ b ∷ []) h = absurd (omega arith)
-five (a ∷ b ∷ c ∷ []) h = absurd (omega arith)
-five (a ∷ b ∷ c ∷ d ∷ []) h = absurd (omega arith)
-
-pub stages_more : (w : List ℕ) → 5 ≤ length w → stages w ≡ first w ∷ stages (after w)
-stages_more w h = rw part_to_end (five w h).stages_are
+stages_more (n ∷ a1 ∷ r1 ∷ a2 ∷ r2 ∷ rest) h = refl
+stages_more [] h = absurd (omega arith)
+stages_more (a ∷ []) h = absurd (omega arith)
+stages_more (a ∷ b ∷ []) h = absurd (omega arith)
+stages_more (a ∷ b ∷ c ∷ []) h = absurd (omega arith)
+stages_more (a ∷ b ∷ c ∷ d ∷ []) h = absurd (omega arith)
 
 pub stages_none : (w : List ℕ) → length w < 5 → stages w ≡ []
 unfolding stages
@@ -44,23 +25,33 @@ stages_none (a ∷ b ∷ []) h = refl
 stages_none (a ∷ b ∷ c ∷ []) h = refl
 stages_none (a ∷ b ∷ c ∷ d ∷ []) h = refl
 
-pub total_none : (w : List ℕ) → length w < 5 → total (stages w) ≡ 0
-unfolding total
-total_none w h = ap total (stages_none w h)
+pub stages_one : (w : List ℕ) → length w ≡ 5 → stages w ≡ first w ∷ []
+stages_one w h = stages_more w (omega arith) ∙ ap (λ (r : List Stage). first w ∷ r) (stages_none (drop 5 w) (omega (arith, length-drop 5 w)))
 
-pub total_more : (w : List ℕ) → 5 ≤ length w → total (stages w) ≡ get_or w 0 0 + total (stages (after w))
-unfolding total first
-total_more w h = ap total (stages_more w h)
-
--- what is left after the first stage
-pub after_none : (w : List ℕ) → length w < 10 → stages (after w) ≡ []
-after_none w h = stages_none (after w) (omega (arith, length_after w))
-
-pub after_more : (w : List ℕ) → 10 ≤ length w → stages (after w) ≡ second w ∷ stages (after (after w))
+first_five : (w : List ℕ) → 5 ≤ length w → first (take 5 w) ≡ first w
 unfolding first
-after_more w h =
-    stages_more (after w) (omega (arith, length_after w)) ∙
-    ap (λ (s : Stage). s ∷ stages (after (after w))) (ap first (part_to_end w 5) ∙ (five w (omega arith)).next_is)
+first_five (n ∷ a1 ∷ r1 ∷ a2 ∷ r2 ∷ rest) h = refl
+first_five [] h = absurd (omega arith)
+first_five (a ∷ []) h = absurd (omega arith)
+first_five (a ∷ b ∷ []) h = absurd (omega arith)
+first_five (a ∷ b ∷ c ∷ []) h = absurd (omega arith)
+first_five (a ∷ b ∷ c ∷ d ∷ []) h = absurd (omega arith)
+
+-- the first five words, as a stage, and the others
+pub split : (w five rest : List ℕ) (s : Stage) → s ≡ first five → (five ≡ take 5 w) × (rest ≡ drop 5 w) × (length rest + 5 ≡ length w) → FirstAndRest w s rest
+split w five rest s is h = record {
+  stages_are = stages_more w (omega arith) ∙ sym (λ i. (is ∙ ap first h.0 ∙ first_five w (omega arith)) i ∷ stages (h.1 i));
+  fewer = omega arith;
+}
+
+module _ (w : List ℕ) where
+  pub total_none : stages w ≡ [] → total (stages w) ≡ 0
+  unfolding total
+  total_none e = ap total e
+
+  pub total_more : (s : Stage) (rest : List ℕ) → stages w ≡ s ∷ stages rest → total (stages w) ≡ s.size + total (stages rest)
+  unfolding total
+  total_more s rest e = ap total e
 
 -- as many stages as there are fives of words
 pub stage_count : (w : List ℕ) → (5 * length (stages w) ≤ length w) × (length w < 5 * length (stages w) + 5)

@@ -13,7 +13,8 @@ use Rattle.plan.specs.declared.counts.Counts.{Counts}
 use Rattle.plan.specs.declared.stage.Answer.{Answer}
 use Rattle.plan.specs.declared.stage.Answer.TheVariants.{GoOn, Accept, Reject}
 use Rattle.plan.specs.declared.ways.StageWay.TheVariants.{Uncurtailed}
-use Rattle.plan.specs.Plan.{Stage, total}
+use Rattle.plan.specs.declared.stage.Stage.{Stage}
+use Rattle.plan.specs.Plan.{total}
 use Rattle.plan.specs.Counts.{units, counts}
 use Rattle.plan.specs.Stopping.{or_else, at_end, first_answer, current, uncurtailed_at, staged, at_stage}
 use Rattle.plan.specs.Sample.{verdict, Faithful}

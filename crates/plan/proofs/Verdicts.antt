@@ -12,7 +12,8 @@ use lib.Seq.{length-take-le, take-take, take-append_seam, take_all}
 use Rattle.plan.specs.declared.counts.Counts.{Counts}
 use Rattle.plan.specs.declared.stage.Answer.{Answer}
 use Rattle.plan.specs.declared.stage.Answer.TheVariants.{GoOn, Accept, Reject}
-use Rattle.plan.specs.Plan.{Stage, total}
+use Rattle.plan.specs.declared.stage.Stage.{Stage}
+use Rattle.plan.specs.Plan.{total}
 use Rattle.plan.specs.Counts.{units, nongood, nonbad, no_units, counts}
 use Rattle.plan.specs.Stopping.{accepts, at_filled, completed, earliest, only_reject, settled}
 use Rattle.plan.specs.Sample.{highest_class, Classes, verdict, Completion, AllHave}

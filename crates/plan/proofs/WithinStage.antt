@@ -16,7 +16,8 @@ use Rattle.plan.specs.declared.ways.StageWay.{StageWay}
 use Rattle.plan.specs.declared.ways.StageWay.TheVariants.{Uncurtailed, Semi, Full}
 use Rattle.plan.specs.declared.ways.Way.{Way}
 use Rattle.plan.specs.declared.ways.Way.TheVariants.{Staged, Earliest}
-use Rattle.plan.specs.Plan.{Stage, End}
+use Rattle.plan.specs.declared.stage.Stage.{Stage}
+use Rattle.plan.specs.Plan.{End}
 use Rattle.plan.specs.Counts.{units, nonbad, counts_after}
 use Rattle.plan.specs.Stopping.{rejects, accepts, decide, at_end, uncurtailed_at, full_at, at_stage, current, staged, answer, semi_at}
 use Rattle.plan.specs.Promise.{SameStage, More}

@@ -1,13 +1,6 @@
 -- A sampling plan: a run of words, five to a stage, and which runs are admitted. Document 01, "Plan".
-use Rattle.std.specs.Prelude.{ℕ, ◌+◌, ◌*◌, ◌≡◌, ◌⊎◌, Bool, true, cond, ◌&&◌, List, [], ◌∷◌, length, get_or, leb, ltb, eqb}
-
--- a stage's size, and its acceptance and rejection numbers: of nongood units (1) and of bad units (2)
-pub record Stage : Type 0 where
-  pub size : ℕ
-  pub accept1 : ℕ
-  pub reject1 : ℕ
-  pub accept2 : ℕ
-  pub reject2 : ℕ
+use Rattle.std.specs.Prelude.{ℕ, ◌+◌, ◌*◌, ◌<◌, ◌≡◌, ◌⊎◌, Bool, true, cond, ◌&&◌, List, [], ◌∷◌, length, get_or, leb, ltb, eqb}
+use Rattle.plan.specs.declared.stage.Stage.{Stage}
 
 -- the first stage of a run of five words or more
 unfoldable pub first : List ℕ → Stage
@@ -21,6 +14,11 @@ stages (a ∷ []) = []
 stages (a ∷ b ∷ []) = []
 stages (a ∷ b ∷ c ∷ []) = []
 stages (a ∷ b ∷ c ∷ d ∷ []) = []
+
+-- s is the first stage of a run of words, and `rest` are the words after it
+pub record FirstAndRest (w : List ℕ) (s : Stage) (rest : List ℕ) : Type 0 where
+  pub stages_are : stages w ≡ s ∷ stages rest
+  pub fewer : length rest < length w
 
 -- S: the units of all stages
 unfoldable pub total : List Stage → ℕ

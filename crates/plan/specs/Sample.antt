@@ -2,7 +2,8 @@
 use Rattle.std.specs.Prelude.{ℕ, ◌≤◌, ◌<◌, ◌≡◌, ◌↔◌, ◌≢◌, Bool, true, ◌&&◌, List, [], ◌∷◌, ◌++◌, length, take, leb}
 use Rattle.plan.specs.declared.stage.Answer.{Answer}
 use Rattle.plan.specs.declared.stage.Answer.TheVariants.{GoOn}
-use Rattle.plan.specs.Plan.{Stage, total}
+use Rattle.plan.specs.declared.stage.Stage.{Stage}
+use Rattle.plan.specs.Plan.{total}
 use Rattle.plan.specs.Counts.{counts}
 use Rattle.plan.specs.Stopping.{at_end, first_answer}
 

@@ -7,7 +7,8 @@ use Rattle.plan.specs.declared.ways.StageWay.{StageWay}
 use Rattle.plan.specs.declared.ways.StageWay.TheVariants.{Uncurtailed, Semi, Full}
 use Rattle.plan.specs.declared.ways.Way.{Way}
 use Rattle.plan.specs.declared.ways.Way.TheVariants.{Staged, Earliest}
-use Rattle.plan.specs.Plan.{Stage, marked}
+use Rattle.plan.specs.declared.stage.Stage.{Stage}
+use Rattle.plan.specs.Plan.{marked}
 use Rattle.plan.specs.Counts.{units, nongood, nonbad, add_units}
 
 -- the numbers of the three states: 0 undecided, 1 accepted, 2 rejected

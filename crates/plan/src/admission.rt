@@ -1,145 +1,159 @@
 // Which plans are admitted. Document 01, "Plan"; document 02, change 1.
-ghost use Rattle.std.specs.Prelude.{◌≡◌, true, ◌≤◌, length};
-ghost use Rattle.plan.specs.Plan.{stages, first, marked, admitted, numbered_rules, rules};
-ghost use Rattle.plan.specs.Row.{row_step, row_end, marked_step};
+ghost use Rattle.std.specs.Prelude.{◌≡◌, ◌≤◌, ◌∷◌};
+ghost use Rattle.plan.specs.Plan.{stages, admitted, numbered_rules, rules};
+ghost use Rattle.plan.specs.Row.{row_step, row_end, stage_step, last_step, marked_step};
 
-use crate::stage::marked;
+use crate::stage::{Stage, split_first};
 
-// One row (acceptance and rejection numbers) at a stage that ends after `end` units; the next stage
-// has the numbers next_a and next_r, and is the last or not.
-fn row_step(a: u32, r: u32, next_a: u32, next_r: u32, end: u32, last: bool) -> bool
-    requires { end ≤ 1000 }
-    ensures { result ≡ row_step a r next_a next_r end last }
+// The acceptance and the rejection number of one row: of nongood units, or of bad ones.
+#[derive(Clone, Copy)]
+struct Row {
+    accept: u32,
+    reject: u32,
+}
+
+fn nongood_row(stage: Stage) -> Row
+    ensures { (result.accept ≡ stage.accept1) × (result.reject ≡ stage.reject1) }
 {
-    if end <= a {
-        return false;
+    Row {
+        accept: stage.accept1,
+        reject: stage.reject1,
     }
-    if r <= a + 1 {
-        return false;
+}
+
+fn bad_row(stage: Stage) -> Row
+    ensures { (result.accept ≡ stage.accept2) × (result.reject ≡ stage.reject2) }
+{
+    Row {
+        accept: stage.accept2,
+        reject: stage.reject2,
     }
-    if next_r < r {
-        return false;
-    }
-    if next_a < a {
-        return false;
-    }
-    if last {
-        return a < next_a;
-    }
-    true
+}
+
+// One row at a stage that ends after `end` units; the next stage is the last or not.
+#[tactic(auto, unfolding(crate::specs::Row::row_step))]
+fn row_step(row: Row, next: Row, end: u32, last: bool) -> bool
+    requires { end ≤ 1000 }
+    ensures { result ≡ row_step row.accept row.reject next.accept next.reject end last }
+{
+    row.accept < end
+        && row.accept + 1 < row.reject
+        && row.reject <= next.reject
+        && row.accept <= next.accept
+        && (!last || row.accept < next.accept)
 }
 
 // One row at the last stage, which ends after `end` units.
-fn row_end(a: u32, r: u32, end: u32) -> bool
+#[tactic(auto, unfolding(crate::specs::Row::row_end))]
+fn row_end(row: Row, end: u32) -> bool
     requires { end ≤ 1000 }
-    ensures { result ≡ row_end a r end }
+    ensures { result ≡ row_end row.accept row.reject end }
 {
-    if end <= a {
-        return false;
-    }
-    if a + 1 != r {
-        return false;
-    }
-    r <= end
+    row.accept < end && row.accept + 1 == row.reject && row.reject <= end
 }
 
-// The rules on the stages of `plan`, one or more, which have acceptance numbers and come after `before`
-// units. A marked one among them breaks the rule that an acceptance number is below the stage's end.
-fn numbered_rules(plan: &[u32], before: u32) -> bool
-    requires { (5 ≤ length plan.now) × (before ≤ 1000) }
-    ensures { result ≡ numbered_rules before (stages plan.now) }
+// The rules on a stage with acceptance numbers, which ends after `end` units, and the next one.
+#[tactic(auto, unfolding(crate::specs::Row::stage_step))]
+fn stage_step(stage: Stage, next: Stage, end: u32, last: bool) -> bool
+    requires { end ≤ 1000 }
+    ensures { result ≡ stage_step stage next end last }
 {
-    let n = plan[0];
-    if n < 1 {
-        return false;
-    }
-    if 1000 - before < n {
-        return false;
-    }
-    let end = before + n;
-    if plan[1] < plan[3] {
-        return false;
-    }
-    if plan[2] < plan[4] {
-        return false;
-    }
-    if plan.len() < 10 {
-        if 60 < plan[2] {
+    1 <= stage.size
+        && stage.accept2 <= stage.accept1
+        && stage.reject2 <= stage.reject1
+        && row_step(nongood_row(stage), nongood_row(next), end, last)
+        && row_step(bad_row(stage), bad_row(next), end, last)
+}
+
+// The rules on the last stage, which ends after `end` units.
+#[tactic(auto, unfolding(crate::specs::Row::last_step))]
+fn last_step(stage: Stage, end: u32) -> bool
+    requires { end ≤ 1000 }
+    ensures { result ≡ last_step stage end }
+{
+    1 <= stage.size
+        && stage.reject1 <= 60
+        && stage.accept2 <= stage.accept1
+        && stage.reject2 <= stage.reject1
+        && row_end(nongood_row(stage), end)
+        && row_end(bad_row(stage), end)
+}
+
+// The rules on stages with acceptance numbers: `first`, which comes after `before` units, and those of `plan` after it. A marked
+// one among them breaks the rule that an acceptance number is below the stage's end.
+#[tactic(auto, using(crate::proofs::Words::next_last, crate::proofs::Words::too_many, crate::proofs::Words::at_last, crate::proofs::Words::step_fails, crate::proofs::Words::step_holds))]
+fn numbered_rules(first: Stage, plan: &[u32], before: u32) -> bool
+    requires { before ≤ 1000 }
+    ensures { result ≡ numbered_rules before (first ∷ stages plan.now) }
+{
+    let mut stage = first;
+    let mut left = plan;
+    let mut end = before;
+    while let Some((next, rest)) = split_first(left) {
+        if 1000 - end < stage.size {
             return false;
         }
-        if !row_end(plan[1], plan[2], end) {
+        end += stage.size;
+        if !stage_step(stage, next, end, rest.len() < 5) {
             return false;
         }
-        return row_end(plan[3], plan[4], end);
+        stage = next;
+        left = rest;
     }
-    let last = plan.len() < 15;
-    if !row_step(plan[1], plan[2], plan[6], plan[7], end, last) {
-        return false;
-    }
-    if !row_step(plan[3], plan[4], plan[8], plan[9], end, last) {
-        return false;
-    }
-    numbered_rules(&plan[5..], end)
+    1000 - end >= stage.size && last_step(stage, end + stage.size)
 }
 
-// The rejection numbers of a marked stage; the next stage has next_r1 and next_r2.
-fn marked_step(r1: u32, r2: u32, next_r1: u32, next_r2: u32) -> bool
-    ensures { result ≡ marked_step r1 r2 next_r1 next_r2 }
+// The rejection numbers of a marked stage, and the next one.
+#[tactic(auto, unfolding(crate::specs::Row::marked_step))]
+fn marked_step(stage: Stage, next: Stage) -> bool
+    ensures { result ≡ marked_step stage.reject1 stage.reject2 next.reject1 next.reject2 }
 {
-    if r2 < 1 {
-        return false;
-    }
-    if r1 < r2 {
-        return false;
-    }
-    if next_r1 < r1 {
-        return false;
-    }
-    r2 <= next_r2
+    1 <= stage.reject2
+        && stage.reject2 <= stage.reject1
+        && stage.reject1 <= next.reject1
+        && stage.reject2 <= next.reject2
 }
 
-// The rules on the stages of `plan`, of which the first is marked; they come after `before` units.
-fn marked_first(plan: &[u32], before: u32) -> bool
-    requires { (5 ≤ length plan.now) × (marked (first plan.now) ≡ true) × (before ≤ 1000) }
-    ensures { result ≡ rules before (stages plan.now) }
+// The rules on all stages, `first` and those of `plan`: on the marked ones ahead, and on the others.
+#[tactic(auto, using(crate::proofs::Marked::rules_numbered, crate::proofs::Marked::rules_last, crate::proofs::Marked::too_many, crate::proofs::Marked::no_units, crate::proofs::Marked::step_fails, crate::proofs::Marked::step_holds))]
+fn rules(first: Stage, plan: &[u32]) -> bool
+    ensures { result ≡ rules 0 (first ∷ stages plan.now) }
 {
-    if plan.len() < 10 {
-        return false;
+    let mut stage = first;
+    let mut left = plan;
+    let mut before = 0;
+    while stage.marked() {
+        let Some((next, rest)) = split_first(left) else {
+            return false;
+        };
+        if stage.size < 1 {
+            return false;
+        }
+        if 1000 - before < stage.size {
+            return false;
+        }
+        if !marked_step(stage, next) {
+            return false;
+        }
+        before += stage.size;
+        stage = next;
+        left = rest;
     }
-    let n = plan[0];
-    if n < 1 {
-        return false;
-    }
-    let left = 1000 - before;
-    if left < n {
-        return false;
-    }
-    if !marked_step(plan[2], plan[4], plan[7], plan[9]) {
-        return false;
-    }
-    let rest = &plan[5..];
-    if marked(rest) {
-        return marked_first(rest, before + n);
-    }
-    numbered_rules(rest, before + n)
+    numbered_rules(stage, left, before)
 }
 
 // Is the plan admitted?
 pub fn admitted(plan: &[u32]) -> bool
     ensures { result ≡ admitted plan.now }
 {
-    let n = plan.len();
-    if n % 5 != 0 {
+    if plan.len() % 5 != 0 {
         return false;
     }
-    if n < 5 {
+    if 35 < plan.len() {
         return false;
     }
-    if 35 < n {
-        return false;
+    match split_first(plan) {
+        Some((first, rest)) => rules(first, rest),
+        None => false,
     }
-    if marked(plan) {
-        return marked_first(plan, 0);
-    }
-    numbered_rules(plan, 0)
 }

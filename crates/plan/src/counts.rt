@@ -34,6 +34,7 @@ impl Counts {
     }
 
     // n units more of one class. Every class but good (0) and bad (2) counts as marginal.
+    #[tactic(auto, using(crate::proofs::Counting::add_good, crate::proofs::Counting::add_bad, crate::proofs::Counting::add_marginal))]
     pub fn with(self, class: u32, n: u32) -> Counts
         requires { units self + n ≤ 4294967295 }
         ensures { result ≡ add_units class n self }

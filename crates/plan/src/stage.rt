@@ -1,8 +1,8 @@
-// One stage of a plan, the first of a run of words: rejection, acceptance, and the answer at its end.
-// Document 01, "Four ways to stop".
-ghost use Rattle.std.specs.Prelude.{◌≡◌, ◌+◌, ◌≤◌, length};
+// One stage of a plan: the words that it is, rejection, acceptance, and the answer at its end. Document 01, "Plan" and
+// "Four ways to stop".
+ghost use Rattle.std.specs.Prelude.{◌≡◌, ◌≤◌, [], MatchOption};
 ghost use Rattle.plan.specs.Counts.{units};
-ghost use Rattle.plan.specs.Plan.{first, marked};
+ghost use Rattle.plan.specs.Plan.{stages, first, FirstAndRest, marked};
 ghost use Rattle.plan.specs.Stopping.{state, goes_on, rejects, accepts, at_end};
 
 use crate::counts::Counts;
@@ -37,52 +37,78 @@ impl Answer {
     }
 }
 
-// Do the units reach a rejection number?
-pub fn rejects(plan: &[u32], c: Counts) -> bool
-    requires { (5 ≤ length plan.now) × (units c ≤ 1000) }
-    ensures { result ≡ rejects (first plan.now) c }
-{
-    if plan[4] <= c.bad {
-        return true;
-    }
-    plan[2] <= c.marginal + c.bad
+// Its size, and its acceptance and rejection numbers: of nongood units (1) and of bad units (2).
+#[derive(Clone, Copy, Debug, PartialEq, Eq)]
+pub struct Stage {
+    pub size: u32,
+    pub accept1: u32,
+    pub reject1: u32,
+    pub accept2: u32,
+    pub reject2: u32,
 }
 
-// Is acceptance not permitted at the stage?
-pub fn marked(plan: &[u32]) -> bool
-    requires { 5 ≤ length plan.now }
-    ensures { result ≡ marked (first plan.now) }
-{
-    if plan[1] != NOT_PERMITTED {
-        return false;
+impl From<[u32; 5]> for Stage {
+    ghost from_gives = { λ words s. s ≡ first words };
+
+    #[tactic(auto, unfolding(crate::specs::Plan::first))]
+    fn from(words: [u32; 5]) -> Stage {
+        let [size, accept1, reject1, accept2, reject2] = words;
+        Stage {
+            size,
+            accept1,
+            reject1,
+            accept2,
+            reject2,
+        }
     }
-    plan[3] == NOT_PERMITTED
 }
 
-// Is acceptance permitted, and are so many bad and so many nongood units within the acceptance numbers?
-pub fn accepts(plan: &[u32], bad: u32, nongood: u32) -> bool
-    requires { 5 ≤ length plan.now }
-    ensures { result ≡ accepts (first plan.now) bad nongood }
+// The first stage of a run of words, and the words after it. A stage that lacks words is none.
+pub(crate) fn split_first(plan: &[u32]) -> Option<(Stage, &[u32])>
+    ensures { MatchOption result (stages plan.now ≡ []) (λ p. FirstAndRest plan.now p.0 p.1.now) }
 {
-    if marked(plan) {
-        return false;
-    }
-    if plan[3] < bad {
-        return false;
-    }
-    nongood <= plan[1]
+    let (words, rest) = plan.split_first_chunk::<5>()?;
+    Some((Stage::from(*words), rest))
 }
 
-// The uncurtailed answer at the stage's end.
-pub fn at_end(plan: &[u32], c: Counts) -> Answer
-    requires { (5 ≤ length plan.now) × (units c ≤ 1000) }
-    ensures { result ≡ at_end (first plan.now) c }
-{
-    if rejects(plan, c) {
-        return Answer::Reject;
+impl Stage {
+    // Do the units reach a rejection number?
+    #[tactic(auto, unfolding(crate::specs::Stopping::rejects))]
+    pub(crate) fn rejects(self, c: Counts) -> bool
+        requires { units c ≤ 1000 }
+        ensures { result ≡ rejects self c }
+    {
+        self.reject2 <= c.bad || self.reject1 <= c.marginal + c.bad
     }
-    if accepts(plan, c.bad, c.marginal + c.bad) {
-        return Answer::Accept;
+
+    // Is acceptance not permitted?
+    #[tactic(auto, unfolding(crate::specs::Plan::marked))]
+    pub(crate) fn marked(self) -> bool
+        ensures { result ≡ marked self }
+    {
+        self.accept1 == NOT_PERMITTED && self.accept2 == NOT_PERMITTED
     }
-    Answer::GoOn
+
+    // Is acceptance permitted, and are so many bad and so many nongood units within the acceptance numbers?
+    #[tactic(auto, unfolding(crate::specs::Stopping::accepts))]
+    pub(crate) fn accepts(self, bad: u32, nongood: u32) -> bool
+        ensures { result ≡ accepts self bad nongood }
+    {
+        !self.marked() && bad <= self.accept2 && nongood <= self.accept1
+    }
+
+    // The uncurtailed answer at the stage's end.
+    #[tactic(auto, unfolding(crate::specs::Stopping::at_end, crate::specs::Stopping::decide))]
+    pub(crate) fn at_end(self, c: Counts) -> Answer
+        requires { units c ≤ 1000 }
+        ensures { result ≡ at_end self c }
+    {
+        if self.rejects(c) {
+            return Answer::Reject;
+        }
+        if self.accepts(c.bad, c.marginal + c.bad) {
+            return Answer::Accept;
+        }
+        Answer::GoOn
+    }
 }

@@ -98,13 +98,13 @@ module _ (n : ℕ) (w : List ℕ) (f : Found) (k : WithLot n w f) where
   lot_before_is : f.before ≡ predecessor n w
   lot_before_is = rw k.reads (ap (λ (g : Found). g.before) k.is)
 
-  pub counts_are : f.counts ≡ counts (history k.lot)
-  counts_are = ap (λ (g : Found). g.counts) k.is
+  pub counts_are : f.chain.counts ≡ counts (history k.lot)
+  counts_are = ap (λ (g : Found). g.chain.counts) k.is
 
-  blanks_are : f.blanks ≡ blanks (history k.lot)
-  blanks_are = ap (λ (g : Found). g.blanks) k.is
+  blanks_are : f.chain.blanks ≡ blanks (history k.lot)
+  blanks_are = ap (λ (g : Found). g.chain.blanks) k.is
 
-  units_are : units f.counts ≡ length k.lot.inspections
+  units_are : units f.chain.counts ≡ length k.lot.inspections
   units_are = ap units counts_are ∙ units_of k.lot.inspections
 
   pub long : least_size ≤ length w
@@ -113,10 +113,10 @@ module _ (n : ℕ) (w : List ℕ) (f : Found) (k : WithLot n w f) where
   pub lot_inside : InWords w f.at
   lot_inside = rw (at_is) (inside w k.contents k.size k.reads n k.lot k.finds)
 
-  pub few : units f.counts ≤ 1000
+  pub few : units f.chain.counts ≤ 1000
   few = rw counts_are (few_units w k.contents k.size k.reads n k.lot k.finds)
 
-  pub answer_requires : (least_size ≤ length w) × (admitted (plan_words w) ≡ true) × (units f.counts ≤ 1000)
+  pub answer_requires : (least_size ≤ length w) × (admitted (plan_words w) ≡ true) × (units f.chain.counts ≤ 1000)
   answer_requires = (long, (holds w k.contents k.size k.reads).plan, few)
 
   pub standing_is : standing n w ≡ some (history k.lot)
@@ -128,11 +128,11 @@ module _ (n : ℕ) (w : List ℕ) (f : Found) (k : WithLot n w f) where
   pub found_lot : lot n w ≡ k.lot
   found_lot = rw (k.reads, k.finds) refl
 
-  pub answer_is : answer_to (plan_words w) (standing n w) ≡ earliest (stages (plan_words w)) f.counts
+  pub answer_is : answer_to (plan_words w) (standing n w) ≡ earliest (stages (plan_words w)) f.chain.counts
   answer_is = rw standing_is (ap (earliest (stages (plan_words w))) (sym counts_are))
 
   -- the answer that the code found, as the rows ask for it
-  pub as_rows_ask : (b : Bool) → undecided (earliest (stages (plan_words w)) f.counts) ≡ b → undecided (answer_to (plan_words w) (standing n w)) ≡ b
+  pub as_rows_ask : (b : Bool) → undecided (earliest (stages (plan_words w)) f.chain.counts) ≡ b → undecided (answer_to (plan_words w) (standing n w)) ≡ b
   as_rows_ask b u = ap undecided answer_is ∙ u
 
   -- behind rows 1, 3 and 6
@@ -165,21 +165,21 @@ module _ (n c : ℕ) (w : List ℕ) where
     inspect_class h = inspect_row refusal.Class (inl (lt-ltb highest_class c h, refl))
 
     module _ (h : c ≤ highest_class) where
-      pub inspect_decided : undecided (earliest (stages (plan_words w)) f.counts) ≡ false → inspect n c w ≡ refused w refusal.Decided
+      pub inspect_decided : undecided (earliest (stages (plan_words w)) f.chain.counts) ≡ false → inspect n c w ≡ refused w refusal.Decided
       inspect_decided u = inspect_row refusal.Decided (inr (le-ltb highest_class c h, inl (rw (as_rows_ask n w f k false u) refl, refl)))
 
-      module _ (u : undecided (earliest (stages (plan_words w)) f.counts) ≡ true) where
+      module _ (u : undecided (earliest (stages (plan_words w)) f.chain.counts) ≡ true) where
         pub inspect_denied : (r : Refusal) → grant_by (needed n w) ≡ Err r → inspect n c w ≡ refused w r
         inspect_denied r g = inspect_row r (inr (le-ltb highest_class c h, inr (rw (as_rows_ask n w f k true u) refl, denied (needed n w) r g)))
 
-        pub inspect_granted : grant_by (needed n w) ≡ Ok tt → inspect n c w ≡ ok (with_inspection w f.at (units f.counts) c (new_record w))
+        pub inspect_granted : grant_by (needed n w) ≡ Ok tt → inspect n c w ≡ ok (with_inspection w f.at (units f.chain.counts) c (new_record w))
         unfolding inspect inspect_rows
         inspect_granted g =
             grants w tt _ (inspect_rows n c w)
             (all_past_lot n w f k inspect_rest (le-ltb highest_class c h, (rw (as_rows_ask n w f k true u) refl, given (needed n w) tt g))) ∙
             ap ok (rw (found_lot n w f k, at_is n w f k, units_are n w f k))
 
-    pub inspect_requires : grant_by (needed n w) ≡ Ok tt → Room w × InWords w f.at × (units f.counts < largest)
+    pub inspect_requires : grant_by (needed n w) ≡ Ok tt → Room w × InWords w f.at × (units f.chain.counts < largest)
     inspect_requires g =
         rw (at_is n w f k, units_are n w f k) (can_inspect w k.contents k.size k.reads n k.lot k.finds (given (needed n w) tt g).0)
 
@@ -191,17 +191,17 @@ module _ (n : ℕ) (w : List ℕ) where
   strike_refused r e = refuses w tt _ (strike_rows n w) r (first_rows n w (strike_own (standing n w)) r e)
 
   module _ (f : Found) (k : WithLot n w f) where
-    inspections_are : length (classes_in (standing n w)) ≡ units f.counts
+    inspections_are : length (classes_in (standing n w)) ≡ units f.chain.counts
     inspections_are = rw (standing_is n w f k) (length_classes k.lot.inspections ∙ sym (units_are n w f k))
 
-    pub strike_none : units f.counts ≡ 0 → strike n w ≡ refused w refusal.NoUnit
+    pub strike_none : units f.chain.counts ≡ 0 → strike n w ≡ refused w refusal.NoUnit
     unfolding strike strike_rows
     strike_none e = refuses w tt _ (strike_rows n w) refusal.NoUnit (past_lot n w f k (strike_own (standing n w)) refusal.NoUnit (inl (eq-eqb (length (classes_in (standing n w))) 0 (inspections_are ∙ e), refl)))
 
-    pub strike_requires : units f.counts ≢ 0 → Striking w f.at
+    pub strike_requires : units f.chain.counts ≢ 0 → Striking w f.at
     strike_requires d = rw (at_is n w f k) (can_strike w k.contents k.size k.reads n k.lot k.finds (λ e. d (units_are n w f k ∙ e)))
 
-    pub strike_granted : units f.counts ≢ 0 → strike n w ≡ ok (without_newest w f.at (newest w f.at))
+    pub strike_granted : units f.chain.counts ≢ 0 → strike n w ≡ ok (without_newest w f.at (newest w f.at))
     unfolding strike strike_rows
     strike_granted d =
         grants w tt _ (strike_rows n w) (all_past_lot n w f k (strike_own (standing n w)) (ne_eqb (length (classes_in (standing n w))) 0 (λ e. d (sym inspections_are ∙ e)), tt)) ∙
@@ -218,11 +218,11 @@ module _ (n : ℕ) (w : List ℕ) where
   close_refused r e = refuses w tt _ (close_rows n w) r (first_rows n w close_rest r e)
 
   module _ (f : Found) (k : WithLot n w f) where
-    pub close_undecided : undecided (earliest (stages (plan_words w)) f.counts) ≡ true → close n w ≡ refused w refusal.Undecided
+    pub close_undecided : undecided (earliest (stages (plan_words w)) f.chain.counts) ≡ true → close n w ≡ refused w refusal.Undecided
     unfolding close close_rows
     close_undecided u = refuses w tt _ (close_rows n w) refusal.Undecided (past_lot n w f k close_rest refusal.Undecided (inl (as_rows_ask n w f k true u, refl)))
 
-    module _ (u : undecided (earliest (stages (plan_words w)) f.counts) ≡ false) where
+    module _ (u : undecided (earliest (stages (plan_words w)) f.chain.counts) ≡ false) where
       pub close_full : tally_full w ≡ true → close n w ≡ refused w refusal.TotalsFull
       unfolding close close_rows
       close_full b = refuses w tt _ (close_rows n w) refusal.TotalsFull (past_lot n w f k close_rest refusal.TotalsFull (inr (as_rows_ask n w f k false u, inl (b, refl))))
@@ -234,7 +234,7 @@ module _ (n : ℕ) (w : List ℕ) where
           grants w tt _ (close_rows n w) (all_past_lot n w f k close_rest (as_rows_ask n w f k false u, (b, tt))) ∙
           ap ok (rw (found_lot n w f k, lot_before_is n w f k, lot_same))
 
-    pub close_requires : tally_full w ≡ false → Closing w f.at f.before (earliest (stages (plan_words w)) f.counts) f.counts
+    pub close_requires : tally_full w ≡ false → Closing w f.at f.before (earliest (stages (plan_words w)) f.chain.counts) f.chain.counts
     close_requires b =
         rw (at_is n w f k, lot_before_is n w f k, counts_are n w f k)
         (can_close w k.contents k.size k.reads n k.lot k.finds (leb-false most_closed (closed_lots w) b))
@@ -246,7 +246,7 @@ module _ (n : ℕ) (w : List ℕ) where
   unfolding look look_rows
   look_refused r e = refuses w _ w (look_rows n w) r (first_rows n w [] r e)
 
-  pub look_shown : (f : Found) (k : WithLot n w f) → look n w ≡ record { reply = Ok (shown (earliest (stages (plan_words w)) f.counts) f.counts f.blanks); words = w }
+  pub look_shown : (f : Found) (k : WithLot n w f) → look n w ≡ record { reply = Ok (shown (earliest (stages (plan_words w)) f.chain.counts) f.chain.counts f.chain.blanks); words = w }
   unfolding look look_rows
   look_shown f k = grants w _ w (look_rows n w) (all_past_lot n w f k [] tt) ∙ rw (found_lot n w f k, counts_are n w f k, blanks_are n w f k)
 

@@ -60,7 +60,7 @@ unit_taken (suc (suc (suc x))) d =
 -- the newest unit of a lot, with the history h
 pub record Newest (w : List ℕ) (f : Found) (h : List ℕ) : Type 0 where
   pub inside : InWords w (newest w f.at)
-  pub counted : f.counts ≡ add_units (field w (newest w f.at) 0) 1 (counts (without_last h))
+  pub counted : f.chain.counts ≡ add_units (field w (newest w f.at) 0) 1 (counts (without_last h))
 
 module _ (n : ℕ) (w : List ℕ) where
   pub estimate_refused : (r : Refusal) → located n w (lot_rows (standing n w) []) ≡ Err r → estimate n w ≡ record { reply = Err r; words = w }
@@ -75,18 +75,18 @@ module _ (n : ℕ) (w : List ℕ) where
         let s = shape (plan_words w) plan in
         omega (arith, s.whole, few_stages w long plan, length-take (5 * word w stage_count) (drop plan_start w), length-drop plan_start w)
 
-    pub estimate_undecided : undecided (earliest (stages (plan_words w)) f.counts) ≡ true → estimate n w ≡ record { reply = Err refusal.Undecided; words = w }
+    pub estimate_undecided : undecided (earliest (stages (plan_words w)) f.chain.counts) ≡ true → estimate n w ≡ record { reply = Err refusal.Undecided; words = w }
     unfolding estimate estimate_rows
     estimate_undecided u = refuses w _ w (estimate_rows n w) refusal.Undecided (past_lot n w f k (estimate_own (plan_words w) (standing n w)) refusal.Undecided (inl (as_rows_ask n w f k true u, refl)))
 
-    module _ (u : undecided (earliest (stages (plan_words w)) f.counts) ≡ false) where
+    module _ (u : undecided (earliest (stages (plan_words w)) f.chain.counts) ≡ false) where
       pub estimate_stages : 1 < word w stage_count → estimate n w ≡ record { reply = Err refusal.SeveralStages; words = w }
       unfolding estimate estimate_rows
       estimate_stages h =
           refuses w _ w (estimate_rows n w) refusal.SeveralStages
           (past_lot n w f k (estimate_own (plan_words w) (standing n w)) refusal.SeveralStages (inr (as_rows_ask n w f k false u, inl (rw stages_are (lt-ltb 1 (word w stage_count) h), refl))))
 
-      newest_at : (is : List Inspection) → Inspections first_record w (word w next_unused) k.lot.at is (newest w k.lot.at) → f.counts ≡ counts (classes is) → Newest w f (classes is)
+      newest_at : (is : List Inspection) → Inspections first_record w (word w next_unused) k.lot.at is (newest w k.lot.at) → f.chain.counts ≡ counts (classes is) → Newest w f (classes is)
       newest_at [] h e = absurd (omega (arith, has_unit (plan_words w) (holds w k.contents k.size k.reads).plan [] (rw e at u)))
       newest_at (i ∷ is) h e =
           let x = h.0 in
@@ -105,13 +105,13 @@ module _ (n : ℕ) (w : List ℕ) where
       abbrev last : ℕ
       last = field w (newest w f.at) 0
 
-      older_are : without_unit last f.counts ≡ counts (without_last (history k.lot))
+      older_are : without_unit last f.chain.counts ≡ counts (without_last (history k.lot))
       older_are = ap (without_unit last) newest_unit.counted ∙ unit_taken last (counts (without_last (history k.lot)))
 
-      pub evidence_requires : (units f.counts ≤ 1000) × (1 ≤ units_of_class last f.counts)
+      pub evidence_requires : (units f.chain.counts ≤ 1000) × (1 ≤ units_of_class last f.chain.counts)
       evidence_requires = (few n w f k, rw newest_unit.counted (some_unit last (counts (without_last (history k.lot)))))
 
-      evidence_is : evidence_counts last f.counts ≡ counts (evidence (history k.lot))
+      evidence_is : evidence_counts last f.chain.counts ≡ counts (evidence (history k.lot))
       evidence_is =
           let h = history k.lot in
           rw (older_are, counts_are n w f k, counting.length_of h) (go h (eqb (length h) 1))
@@ -120,16 +120,16 @@ module _ (n : ℕ) (w : List ℕ) where
           go h true = refl
           go h false = refl
 
-      pub evidence_few : units (evidence_counts last f.counts) ≤ 1000
-      evidence_few = go (eqb (units f.counts) 1)
+      pub evidence_few : units (evidence_counts last f.chain.counts) ≤ 1000
+      evidence_few = go (eqb (units f.chain.counts) 1)
         where
-          go : (b : Bool) → units (cond b f.counts (without_unit last f.counts)) ≤ 1000
+          go : (b : Bool) → units (cond b f.chain.counts (without_unit last f.chain.counts)) ≤ 1000
           go true = few n w f k
           go false =
               let older = counts (without_last (history k.lot)) in
               rw older_are (omega (arith, few n w f k, ap units newest_unit.counted, counting.added last 1 older))
 
-      pub estimate_granted : word w stage_count ≤ 1 → (c : Counts) → c ≡ evidence_counts last f.counts →
+      pub estimate_granted : word w stage_count ≤ 1 → (c : Counts) → c ≡ evidence_counts last f.chain.counts →
           estimate n w ≡ record { reply = Ok (record { good = c.good; marginal = c.marginal; bad = c.bad; over = units c }); words = w }
       unfolding estimate estimate_rows
       estimate_granted h c e =

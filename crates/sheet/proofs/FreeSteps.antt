@@ -8,7 +8,7 @@ use native.Mathlib.Omega.{arith}
 use native.Mathlib.Decide.{dec_lt}
 use lib.Dec.{eqb}
 use borrow.Author.Tests.{eq-eqb, ne_eqb}
-use Rattle.sheet.specs.declared.chain.FreeChain.TheVariants.{Corrupt, Whole}
+use Rattle.std.specs.Prelude.{Some, None}
 use Rattle.sheetmodel.specs.Layout.{word, field, next, first_free}
 use Rattle.sheetmodel.specs.Read.{guard, then, in_use, depth, read_free}
 use Rattle.sheetmodel.specs.Rows.{is_some}
@@ -45,21 +45,21 @@ module _ (first : ℕ) (w : List ℕ) where
   unfolding depth
   depth_is n = rw (ne_eqb (word w first_free) 0 n)
 
-  pub cut : (n at : ℕ) → is_some (read_free first w n at) ≡ false → free_of (read_free first w n at) ≡ Corrupt
+  pub cut : (n at : ℕ) → is_some (read_free first w n at) ≡ false → free_of (read_free first w n at) ≡ None
   cut n at = go (read_free first w n at)
     where
-      go : (o : Option (List ℕ)) → is_some o ≡ false → free_of o ≡ Corrupt
+      go : (o : Option (List ℕ)) → is_some o ≡ false → free_of o ≡ None
       go none e = refl
       go (some js) e = cc
 
-  pub whole_of : (n at : ℕ) → is_some (read_free first w n at) ≡ true → free_of (read_free first w n at) ≡ Whole n
+  pub whole_of : (n at : ℕ) → is_some (read_free first w n at) ≡ true → free_of (read_free first w n at) ≡ Some n
   whole_of n at = go (read_free first w n at) refl
     where
-      go : (o : Option (List ℕ)) → read_free first w n at ≡ o → is_some o ≡ true → free_of o ≡ Whole n
+      go : (o : Option (List ℕ)) → read_free first w n at ≡ o → is_some o ≡ true → free_of o ≡ Some n
       go none e f = cc
-      go (some js) e f = ap Whole (sym (sound_free first w n at js e).1)
+      go (some js) e f = ap Some (sym (sound_free first w n at js e).1)
 
-  pub not_used : (word w first_free ≡ 0 → ⊥) → in_use first w (word w first_free) ≡ false → free_of (read_free first w (depth w) (word w first_free)) ≡ Corrupt
+  pub not_used : (word w first_free ≡ 0 → ⊥) → in_use first w (word w first_free) ≡ false → free_of (read_free first w (depth w) (word w first_free)) ≡ None
   not_used z e = cut (depth w) (word w first_free) (go (depth w) (dec_lt 0 (depth w)))
     where
       go : (n : ℕ) → Dec (0 < n) → is_some (read_free first w n (word w first_free)) ≡ false
@@ -70,5 +70,5 @@ module _ (first : ℕ) (w : List ℕ) where
   unfolding depth
   depth_none e = rw (eq-eqb (word w first_free) 0 e)
 
-  pub no_free : word w first_free ≡ 0 → free_of (read_free first w (depth w) (word w first_free)) ≡ Whole 0
+  pub no_free : word w first_free ≡ 0 → free_of (read_free first w (depth w) (word w first_free)) ≡ Some 0
   no_free e = rw (depth_none e) (whole_of 0 (word w first_free) (ended 0 (word w first_free) refl ∙ eq-eqb (word w first_free) 0 e))

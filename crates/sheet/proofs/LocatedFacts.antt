@@ -14,7 +14,9 @@ use Rattle.plan.specs.declared.refusal.Refusal.TheVariants as refusal
 use Rattle.plan.specs.Refusal.{Row, First, NoneApplies}
 use Rattle.plan.proofs.Refusals.{refused_exactly, first_refusals, first_append}
 use Rattle.sheet.specs.declared.survey.Found.{Found}
-use Rattle.sheet.specs.declared.survey.Surveyed.TheVariants.{Corrupt, Intact}
+use Rattle.std.specs.Prelude.{Some, None}
+use Rattle.std.specs.Prelude as std
+use Rattle.std.specs.Option.{ok_or}
 use Rattle.sheetmodel.specs.Layout.{size_ok, share, first_record}
 use Rattle.sheetmodel.specs.Contents.{Lot, Contents, find, records_of}
 use Rattle.sheetmodel.specs.Offices.{shares_fit}
@@ -23,7 +25,7 @@ use Rattle.sheetmodel.specs.Rows.{is_some, lot_rows}
 use Rattle.sheetmodel.specs.Calls.{contents, standing, sheet_rows, last_below}
 use Rattle.sheet.specs.Survey.{found, survey_of}
 use Rattle.sheet.specs.Locating.{found_on, located}
-use Rattle.sheet.specs.Sharing.{WholeSheet, HeldBy, Counted}
+use Rattle.sheet.specs.Sharing.{WholeSheet, HeldBy, Counted, CountedOn}
 use Rattle.sheetmodel.proofs.ForSheet.{some_value, some_lot}
 use Rattle.sheet.proofs.Requires.{lot_after_header}
 
@@ -97,29 +99,39 @@ module _ (n : ℕ) (w : List ℕ) where
   unfolding read
   fitting u = rw u refl
 
-  pub corrupt : size_ok w ≡ true → shares_fit (share w) w ≡ true → survey_of n (read_from first_record w) ≡ Corrupt → located n w [] ≡ Err refusal.Corrupt
+  corrupt : size_ok w ≡ true → shares_fit (share w) w ≡ true → survey_of n (read_from first_record w) ≡ None → located n w [] ≡ Err refusal.Corrupt
   corrupt z u e = go (read w) refl (rw (fitting u) e)
     where
-      go : (o : Option Contents) → read w ≡ o → survey_of n o ≡ Corrupt → located n w [] ≡ Err refusal.Corrupt
+      go : (o : Option Contents) → read w ≡ o → survey_of n o ≡ None → located n w [] ≡ Err refusal.Corrupt
       go none r e = no_contents z r
       go (some s) r e = let y : ◌≡◌ {A = ℕ} 0 1 = cc in absurd (omega arith)
 
-  pub intact : (f : Found) → size_ok w ≡ true → shares_fit (share w) w ≡ true → survey_of n (read_from first_record w) ≡ Intact f → located n w [] ≡ Ok f
+  intact : (f : Found) → size_ok w ≡ true → shares_fit (share w) w ≡ true → survey_of n (read_from first_record w) ≡ Some f → located n w [] ≡ Ok f
   intact f z u e = go (read w) refl (rw (fitting u) e)
     where
-      go : (o : Option Contents) → read w ≡ o → survey_of n o ≡ Intact f → located n w [] ≡ Ok f
+      go : (o : Option Contents) → read w ≡ o → survey_of n o ≡ Some f → located n w [] ≡ Ok f
       go none r e = let y : ◌≡◌ {A = ℕ} 0 1 = cc in absurd (omega arith)
       go (some s) r e =
           let same : found n (find n s.lots) (last_below n 0 s.lots) (records_of s.lots) ≡ f = cc in
           finding n w [] f (all_behind w s z r [] tt) (rw r same)
 
   -- what the survey counted is what the offices hold of the sheet
-  pub counted_on : (f : Found) (h : List ℕ) → shares_fit (share w) w ≡ true → Counted (Intact f) (then (read_from first_record w) (λ s. some s.lots)) h → HeldBy (contents w).lots h
+  counted_on : (f : Found) (h : List ℕ) → shares_fit (share w) w ≡ true → Counted (Some f) (then (read_from first_record w) (λ s. some s.lots)) h → HeldBy (contents w).lots h
   counted_on f h u c = go (read w) refl (rw (← fitting u) at c)
     where
       go : (o : Option Contents) → read w ≡ o → (ls : List Lot) × (then o (λ s. some s.lots) ≡ some ls) × HeldBy ls h → HeldBy (contents w).lots h
       go none r k = let e = k.1 in let z : ◌≡◌ {A = ℕ} 0 1 = cc in absurd (omega arith)
       go (some s) r k = let e = k.1 in let same : k.0 ≡ s.lots = cc in rw (r, ← same) k.2
+
+  -- by what the survey gave
+  pub by_survey : size_ok w ≡ true → shares_fit (share w) w ≡ true → (v : std.Option Found) → v ≡ survey_of n (read_from first_record w) → ok_or v refusal.Corrupt ≡ located n w []
+  by_survey z u None e = sym (corrupt z u (sym e))
+  by_survey z u (Some f) e = sym (intact f z u (sym e))
+
+  pub counted_by_survey : shares_fit (share w) w ≡ true → (v : std.Option Found) (h : List ℕ) → Counted v (then (read_from first_record w) (λ s. some s.lots)) h
+      → CountedOn w (ok_or v refusal.Corrupt) h
+  counted_by_survey u None h c = tt
+  counted_by_survey u (Some f) h c = counted_on f h u c
 
   -- ---- what follows
 

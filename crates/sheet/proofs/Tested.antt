@@ -13,7 +13,8 @@ use lib.Seq.{take-append-le, take_all}
 use lib.Dec.{eqb}
 use borrow.Author.Tests.{eqb-true, eqb-false}
 use Rattle.plan.specs.declared.stage.Answer.TheVariants.{GoOn}
-use Rattle.plan.specs.Plan.{Stage, stages, End, end_below, admitted}
+use Rattle.plan.specs.declared.stage.Stage.{Stage}
+use Rattle.plan.specs.Plan.{stages, End, end_below, admitted}
 use Rattle.plan.specs.Counts.{counts}
 use Rattle.plan.specs.Stopping.{earliest}
 use Rattle.plan.proofs.Promise.{promise}

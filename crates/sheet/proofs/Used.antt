@@ -1,8 +1,8 @@
--- The words of a record; a record in use lies within the sheet. Assumes nothing.
+-- A record in use lies within the sheet; what is known of a record that was tested. Assumes nothing.
 use Rattle.plan.proofs.Bools.{and_left, and_right}
 use Prim.Native.Nat.{ℕ, ◌+◌, ◌*◌, ◌≤◌, ◌<◌}
-use mathlib.Core.Path.{◌≡◌}
-use mathlib.Core.Bool.{true}
+use mathlib.Core.Path.{◌≡◌, refl, sym}
+use mathlib.Core.Bool.{Bool, true, false, cond}
 use mathlib.Core.List.{List}
 use native.Mathlib.Omega.{arith}
 use lib.ListN.{length}
@@ -12,29 +12,20 @@ use Rattle.plan.specs.Sample.{highest_class}
 use Rattle.sheetmodel.specs.Layout.{word, field, next_unused}
 use Rattle.sheetmodel.specs.Read.{in_use}
 use Rattle.sheet.specs.declared.record.Record.{Record}
-use Rattle.sheet.specs.Survey.{Sized, is_inspection, is_free, is_lot}
-
--- the words of a record, as functions
-abbrev pub value : Record → ℕ
-value r = r.value
-
-abbrev pub link : Record → ℕ
-link r = r.link
-
-abbrev pub tag : Record → ℕ
-tag r = r.tag
+use Rattle.std.specs.Prelude.{Some, None}
+use Rattle.std.proofs.lemmas.Option.{cond_some}
+use Rattle.sheet.specs.Survey.{Sized, record_at, is_inspection}
 
 pub record_within : (first : ℕ) (w : List ℕ) (at : ℕ) → Sized w → in_use first w at ≡ true → 4 * at + 3 < length w
 record_within first w at s e = omega (arith, s.room, ltb-true at (word w next_unused) (and_right (leb first at) (ltb at (word w next_unused)) e))
 
-pub inspection_within : (first : ℕ) (w : List ℕ) (lot serial at : ℕ) → Sized w → is_inspection first w lot serial at ≡ true → 4 * at + 3 < length w
-inspection_within first w lot serial at s e = record_within first w at s (search (and_left, and_right))
+-- a record that was found passed the test, and is the one in the words; none was found where the test failed
+pub passed : (test : Bool) (w : List ℕ) (at : ℕ) (r : Record) → Some r ≡ cond test (Some (record_at w at)) None → (test ≡ true) × (record_at w at ≡ r)
+passed test w at r e = cond_some test (record_at w at) r (sym e)
+
+pub failed : (test : Bool) (w : List ℕ) (at : ℕ) → None ≡ cond test (Some (record_at w at)) None → test ≡ false
+failed true w at e = absurd (cc)
+failed false w at e = refl
 
 pub inspection_class : (first : ℕ) (w : List ℕ) (lot serial at : ℕ) → is_inspection first w lot serial at ≡ true → field w at 0 ≤ highest_class
 inspection_class first w lot serial at e = leb-true (field w at 0) highest_class (search (and_left, and_right))
-
-pub free_within : (first : ℕ) (w : List ℕ) (depth at : ℕ) → Sized w → is_free first w depth at ≡ true → 4 * at + 3 < length w
-free_within first w depth at s e = record_within first w at s (search (and_left, and_right))
-
-pub lot_within : (first : ℕ) (w : List ℕ) (above at : ℕ) → Sized w → is_lot first w above at ≡ true → 4 * at + 3 < length w
-lot_within first w above at s e = record_within first w at s (search (and_left, and_right))

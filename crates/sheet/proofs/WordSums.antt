@@ -7,6 +7,8 @@ use native.Mathlib.Omega.{arith}
 use native.Mathlib.Decide.{dec_lt}
 use lib.ListN.{length, take, drop, length-take, length-drop}
 use lib.Seq.{get_or-take, get_or-drop}
+use Rattle.std.proofs.Common.{sum_by}
+use Rattle.std.proofs.lemmas.List.Sums.{sum_by-cons}
 use lib.Dec.{eqb}
 use borrow.Author.Tests.{eq-eqb, ne_eqb}
 use Rattle.sheetmodel.specs.Layout.{word}
@@ -22,12 +24,18 @@ pub no_words : (f : ℕ → ℕ) → 0 ≡ added_up 0 f
 unfolding added_up
 no_words f = refl
 
--- ---- zeros
-
 from_first : (n : ℕ) (f : ℕ → ℕ) → added_up (suc n) f ≡ f 0 + added_up n (λ o. f (suc o))
 unfolding added_up
 from_first zero f = omega arith
 from_first (suc n) f = omega (arith, from_first n f)
+
+-- the sum of a list
+pub summed : (l : List ℕ) → sum_by (λ (x : ℕ). x) l ≡ added_up (length l) (word l)
+unfolding added_up
+summed [] = refl
+summed (x ∷ l) = omega (arith, sum_by-cons (λ (y : ℕ). y) x l, summed l, from_first (length l) (word (x ∷ l)))
+
+-- ---- zeros
 
 both_zero : (a b : ℕ) → eqb (a + b) 0 ≡ (eqb a 0 && eqb b 0)
 both_zero a b = go (dec_lt 0 a) (dec_lt 0 b)

@@ -4,4 +4,3 @@ pub mod Locating
 pub mod Estimating
 pub mod Granting
 pub mod Sharing
-pub mod FreshHeader

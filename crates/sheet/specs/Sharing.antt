@@ -1,8 +1,7 @@
 -- What the code's walks over lots and shares need of the words, and what they find. Document 02, change 7.
-use Rattle.std.specs.Prelude.{ℕ, ◌+◌, ◌<◌, ◌≡◌, true, List, length, set}
-use Rattle.std.proofs.Math.Option.{Option, some}
-use Rattle.sheet.specs.declared.survey.Surveyed.{Surveyed}
-use Rattle.sheet.specs.declared.survey.Surveyed.TheVariants as survey
+use Rattle.std.specs.Prelude.{ℕ, ◌+◌, ◌<◌, ◌≡◌, true, List, length, set, Option, Some, None}
+use Rattle.std.proofs.Math.Option as read_option
+use Rattle.std.proofs.Math.Option.{some}
 use Rattle.std.specs.declared.result.Result.{Result}
 use Rattle.std.specs.declared.result.Result.TheVariants.{Ok, Err}
 use Rattle.plan.specs.declared.refusal.Refusal.{Refusal}
@@ -29,9 +28,9 @@ abbrev pub with_lot_held : List ℕ → ℕ → ℕ → List ℕ
 with_lot_held h lot n = set h (office lot) (word h (office lot) + (1 + n))
 
 -- where a survey finds the lots intact, h has what each office holds of those read
-abbrev pub Counted : Surveyed → Option (List Lot) → List ℕ → Type 0
-Counted survey.Corrupt o h = Unit
-Counted (survey.Intact f) o h = (ls : List Lot) × (o ≡ some ls) × HeldBy ls h
+abbrev pub Counted : Option Found → read_option.Option (List Lot) → List ℕ → Type 0
+Counted None o h = Unit
+Counted (Some f) o h = (ls : List Lot) × (o ≡ some ls) × HeldBy ls h
 
 -- and where no row refuses, what each office holds of the sheet's
 abbrev pub CountedOn : List ℕ → Result Found Refusal → List ℕ → Type 0

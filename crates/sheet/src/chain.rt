@@ -1,283 +1,233 @@
 // Chains of records: a lot's inspections, and the free records. Each record is tested before its words
-// are used, so that a damaged chain ends the walk. `first` is the first record after the header.
-ghost use Rattle.std.specs.Prelude.{◌≡◌, true, ◌+◌, ◌-◌, ◌≤◌, ◌<◌};
-ghost use Rattle.plan.specs.Plan.{stages, total, admitted, end_below};
-ghost use Rattle.plan.specs.Counts.{units, no_units};
+// are used, so that a damaged chain ends the walk.
+ghost use Rattle.std.specs.Prelude.{◌≡◌, ◌+◌, ◌-◌, ◌≤◌, ◌<◌, cond, eqb};
+ghost use Rattle.plan.specs.Plan.{stages, end_below};
+ghost use Rattle.plan.specs.Counts.{units};
 ghost use Rattle.sheetmodel.specs.Layout.{first_free, word};
-ghost use Rattle.sheetmodel.specs.Read.{in_use, serial_at, depth, read_inspections, read_free, undecided_before};
+ghost use Rattle.sheetmodel.specs.Read.{serial_at, depth, read_inspections, read_free, undecided_before};
 ghost use Rattle.sheetmodel.specs.Rows.{is_some};
-ghost use Rattle.sheet.specs.Survey.{Sized, is_inspection, is_free, tested, chain_of, all_units, newer_part, free_of};
+ghost use Rattle.sheet.specs.Survey.{record_at, is_inspection, is_free, no_chain, with_chain, if_undecided, with_newer, tested, chain_of, newer_part, free_of};
 
-use crate::layout::{FIRST_FREE, FREE_TAG, NEXT_UNUSED};
-use crate::record::{field_of, record_at};
+use crate::layout::{FIRST_FREE, FREE_TAG};
+use crate::record::{Record, TAG, VALUE, field_of, record_at};
+use crate::records::Records;
 use plan::Counts;
 
-// A chain of inspections: damaged, or whole, with its units and the blanks among them.
+// The units of inspections on a chain, and the blanks among them.
 #[derive(Clone, Copy)]
-pub enum Chain {
-    Corrupt,
-    Whole(Counts, u32),
+pub struct Chain {
+    pub counts: Counts,
+    pub blanks: u32,
 }
 
-// The newer inspections of a chain: damaged, or whole, with their units, the blanks among them and
-// the record after them.
+// The newer inspections of a chain, and the record after them.
 #[derive(Clone, Copy)]
-pub enum Part {
-    Corrupt,
-    Whole(Counts, u32, u32),
+struct Part {
+    chain: Chain,
+    next: usize,
 }
 
-// The chain of free records: damaged, or whole, with their number.
-#[derive(Clone, Copy)]
-pub enum FreeChain {
-    Corrupt,
-    Whole(u32),
-}
-
-// May a chain have this index?
-pub fn is_used(sheet: &[u32], first: u32, at: u32) -> bool
-    requires { Sized sheet.now }
-    ensures { result ≡ in_use first sheet.now at }
-{
-    if at < first {
-        return false;
-    }
-    at < sheet[NEXT_UNUSED]
-}
-
-// Is this the inspection of the lot with this serial?
-fn is_inspection(sheet: &[u32], first: u32, lot: u32, serial: u32, at: u32) -> bool
-    requires { Sized sheet.now }
-    ensures { result ≡ is_inspection first sheet.now lot serial at }
-{
-    if !is_used(sheet, first, at) {
-        return false;
-    }
-    let r = record_at(sheet, at);
-    if plan::HIGHEST_CLASS < r.value {
-        return false;
-    }
-    if r.link != lot {
-        return false;
-    }
-    r.tag == serial
-}
-
-// The units of older and of newer inspections.
-fn all_units(older: Counts, newer: Counts) -> Counts
-    requires { units older + units newer ≤ 4294967295 }
-    ensures { result ≡ all_units older newer }
-{
-    Counts {
-        good: older.good + newer.good,
-        marginal: older.marginal + newer.marginal,
-        bad: older.bad + newer.bad,
-    }
-}
-
-// The inspections of a lot from the record `at` on, whose serials fall from `serial` to `stop` + 1: the
-// units, the blanks and the record after them. The `stop` older ones are then left to be tested.
-// Classes come in no order, so that a branch on them is often predicted wrongly. Three sums need none:
-// of the classes, of their halves (1 for a bad or blank unit) and of their thirds (1 for a blank).
-fn newer_part(sheet: &[u32], first: u32, lot: u32, serial: u32, at: u32, stop: u32) -> Part
-    requires { Sized sheet.now × (serial ≤ 1000) × (stop < serial) }
-    ensures { result ≡ newer_part first sheet.now lot stop (serial - stop) at no_units 0 }
-{
-    let mut left = serial;
-    let mut next = at;
-    let mut sum: u32 = 0;
-    let mut halves: u32 = 0;
-    let mut blanks: u32 = 0;
-    while stop < left {
-        if !is_inspection(sheet, first, lot, left, next) {
-            return Part::Corrupt;
+impl Chain {
+    // No inspections.
+    pub fn none() -> Chain
+        ensures { result ≡ no_chain }
+    {
+        Chain {
+            counts: Counts::none(),
+            blanks: 0,
         }
-        let r = record_at(sheet, next);
-        sum += r.value;
-        halves += r.value / 2;
-        blanks += r.value / 3;
-        next = r.next;
-        left -= 1;
     }
-    let marginal = sum - 2 * halves;
-    let bad = halves - blanks;
-    let c = Counts {
-        good: serial - stop - marginal - bad,
-        marginal: marginal,
-        bad: bad,
-    };
-    Part::Whole(c, blanks, next)
-}
 
-// The inspections of a lot from the record `at` on, whose serials fall from `serial` to 1. The units of
-// the `test` oldest ones must be undecided, and those at each stage end below. They are counted before
-// they are tested, so the older ones come first: a call for each number tested, at most eight deep.
-fn inspections(
-    sheet: &[u32],
-    first: u32,
-    plan: &[u32],
-    lot: u32,
-    serial: u32,
-    at: u32,
-    test: u32,
-) -> Chain
-    requires { Sized sheet.now × (admitted plan.now ≡ true) × (serial ≤ 1000) × (test < serial) }
-    ensures { result ≡ chain_of (tested (stages plan.now) test) (read_inspections first sheet.now lot serial at) }
-{
-    match newer_part(sheet, first, lot, serial, at, test) {
-        Part::Corrupt => Chain::Corrupt,
-        Part::Whole(newer, blanks, next) => {
-            // before the first unit every lot is undecided
-            if test == 0 {
-                if next == 0 {
-                    return Chain::Whole(newer, blanks);
-                }
-                return Chain::Corrupt;
-            }
-            let below = plan::end_below(plan, 0, test);
-            match inspections(sheet, first, plan, lot, test, next, below) {
-                Chain::Corrupt => Chain::Corrupt,
-                Chain::Whole(older, older_blanks) => {
-                    if !plan::earliest(plan, older).goes_on() {
-                        return Chain::Corrupt;
-                    }
-                    Chain::Whole(all_units(older, newer), older_blanks + blanks)
-                }
-            }
+    // These older inspections and newer ones.
+    fn with(self, newer: Chain) -> Chain
+        requires { (units self.counts + units newer.counts ≤ 1000) × (self.blanks + newer.blanks ≤ 1000) }
+        ensures { result ≡ with_chain self newer }
+    {
+        Chain {
+            counts: self.counts + newer.counts,
+            blanks: self.blanks + newer.blanks,
         }
     }
 }
 
-// All inspections of a lot from the record `at` on, whose serials fall from `serial` to 1. Nothing is tested:
-// before the first unit every lot is undecided.
-fn whole_chain(sheet: &[u32], first: u32, plan: &[u32], lot: u32, serial: u32, at: u32) -> Chain
-    requires { Sized sheet.now × (admitted plan.now ≡ true) × (serial ≤ 1000) × (0 < serial) }
-    ensures { result ≡ chain_of (tested (stages plan.now) 0) (read_inspections first sheet.now lot serial at) }
-{
-    match newer_part(sheet, first, lot, serial, at, 0) {
-        Part::Corrupt => Chain::Corrupt,
-        Part::Whole(c, blanks, next) => {
-            if next == 0 {
-                return Chain::Whole(c, blanks);
-            }
-            Chain::Corrupt
+impl Part {
+    // The whole chain, if no older inspection is left.
+    fn ended(self) -> Option<Chain>
+        ensures { result ≡ cond (eqb self.next 0) (Some self.chain) None }
+    {
+        if self.next == 0 {
+            Some(self.chain)
+        } else {
+            None
         }
     }
 }
 
-// As `inspections`, where no stage ends below `test`. It does not call itself, so that it is compiled into
-// the walk over the lots; most lots come here.
-fn in_first_stage(
-    sheet: &[u32],
-    first: u32,
-    plan: &[u32],
-    lot: u32,
-    serial: u32,
-    at: u32,
-    test: u32,
-) -> Chain
-    requires { Sized sheet.now × (admitted plan.now ≡ true) × (serial ≤ 1000) × (0 < test) × (test < serial) × (0 ≡ end_below 0 (stages plan.now) test) }
-    ensures { result ≡ chain_of (tested (stages plan.now) test) (read_inspections first sheet.now lot serial at) }
-{
-    match newer_part(sheet, first, lot, serial, at, test) {
-        Part::Corrupt => Chain::Corrupt,
-        Part::Whole(newer, blanks, next) => match whole_chain(sheet, first, plan, lot, test, next) {
-            Chain::Corrupt => Chain::Corrupt,
-            Chain::Whole(older, older_blanks) => {
-                if !plan::earliest(plan, older).goes_on() {
-                    return Chain::Corrupt;
-                }
-                Chain::Whole(all_units(older, newer), older_blanks + blanks)
-            }
-        },
-    }
-}
-
-// The inspections of the lot in the record `lot`, the newest in the record `newest` (0: none). A lot has
-// no more than `most` units, the plan's sample size.
-pub fn lot_inspections(
-    sheet: &[u32],
-    first: u32,
-    plan: &[u32],
-    most: u32,
-    lot: u32,
-    newest: u32,
-) -> Chain
-    requires { Sized sheet.now × (admitted plan.now ≡ true) × (most ≡ total (stages plan.now)) }
-    ensures { result ≡ chain_of (undecided_before (stages plan.now)) (read_inspections first sheet.now lot (serial_at sheet.now newest) newest) }
-{
-    if newest == 0 {
-        return Chain::Whole(Counts::none(), 0);
-    }
-    if !is_used(sheet, first, newest) {
-        return Chain::Corrupt;
-    }
-    let serial = field_of(sheet, newest, 3);
-    if serial == 0 {
-        return Chain::Corrupt;
-    }
-    if most < serial {
-        return Chain::Corrupt;
-    }
-    if serial == 1 {
-        return whole_chain(sheet, first, plan, lot, serial, newest);
-    }
-    if plan::end_below(plan, 0, serial - 1) == 0 {
-        return in_first_stage(sheet, first, plan, lot, serial, newest, serial - 1);
-    }
-    inspections(sheet, first, plan, lot, serial, newest, serial - 1)
-}
-
-// Is this the free record of this depth?
-fn is_free(sheet: &[u32], first: u32, depth: u32, at: u32) -> bool
-    requires { Sized sheet.now }
-    ensures { result ≡ is_free first sheet.now depth at }
-{
-    if !is_used(sheet, first, at) {
-        return false;
-    }
-    let r = record_at(sheet, at);
-    if r.value != depth {
-        return false;
-    }
-    if r.link != 0 {
-        return false;
-    }
-    r.tag == FREE_TAG
-}
-
-// Is the chain of free records from `at` on whole, of this depth?
-fn is_free_chain(sheet: &[u32], first: u32, depth: u32, at: u32) -> bool
-    requires { Sized sheet.now }
-    ensures { result ≡ is_some (read_free first sheet.now depth at) }
-{
-    let mut left = depth;
-    let mut next = at;
-    while 0 < left {
-        if !is_free(sheet, first, left, next) {
-            return false;
+impl Records<'_> {
+    // The record `at`, if it is the inspection of the lot with this serial.
+    fn inspection(self, lot: u32, serial: u32, at: usize) -> Option<Record>
+        ensures { result ≡ cond (is_inspection self.entry.first self.entry.sheet.now lot serial at) (Some (record_at self.entry.sheet.now at)) None }
+    {
+        if !self.is_used(at) {
+            return None;
         }
-        next = field_of(sheet, next, 1);
-        left -= 1;
+        let r = record_at(self.sheet, at);
+        if r.value <= plan::HIGHEST_CLASS && r.link == lot && r.tag == serial {
+            Some(r)
+        } else {
+            None
+        }
     }
-    next == 0
-}
 
-// The chain of free records.
-pub fn free_chain(sheet: &[u32], first: u32) -> FreeChain
-    requires { Sized sheet.now }
-    ensures { result ≡ free_of (read_free first sheet.now (depth sheet.now) (word sheet.now first_free)) }
-{
-    let at = sheet[FIRST_FREE];
-    if at == 0 {
-        return FreeChain::Whole(0);
+    // The inspections of a lot from the record `at` on, whose serials fall from `serial` to `stop` + 1. The
+    // `stop` older ones are then left to be tested.
+    // Classes come in no order, so that a branch on them is often predicted wrongly. Three sums need none:
+    // of the classes, of their halves (1 for a bad or blank unit) and of their thirds (1 for a blank).
+    fn newer_part(self, lot: u32, serial: u32, at: usize, stop: u32) -> Option<Part>
+        requires { (serial ≤ 1000) × (stop < serial) }
+        ensures { result ≡ newer_part self.entry.first self.entry.sheet.now lot stop (serial - stop) at no_chain }
+    {
+        let mut next = at;
+        let mut sum: u32 = 0;
+        let mut halves: u32 = 0;
+        let mut blanks: u32 = 0;
+        for older in (stop..serial).rev() {
+            let r = self.inspection(lot, older + 1, next)?;
+            sum += r.value;
+            halves += r.value / 2;
+            blanks += r.value / 3;
+            next = r.next as usize;
+        }
+        let marginal = sum - 2 * halves;
+        let bad = halves - blanks;
+        let good = serial - stop - marginal - bad;
+        let counts = Counts {
+            good,
+            marginal,
+            bad,
+        };
+        Some(Part {
+            chain: Chain { counts, blanks },
+            next,
+        })
     }
-    if !is_used(sheet, first, at) {
-        return FreeChain::Corrupt;
+
+    // One chain of older inspections, which must be undecided, and newer ones.
+    fn joined(self, older: Chain, newer: Chain) -> Option<Chain>
+        requires { (units older.counts + units newer.counts ≤ 1000) × (older.blanks + newer.blanks ≤ 1000) }
+        ensures { result ≡ with_newer newer (if_undecided (stages self.entry.plan.now) (Some older)) }
+    {
+        if plan::earliest(self.plan, older.counts).goes_on() {
+            Some(older.with(newer))
+        } else {
+            None
+        }
     }
-    let depth = field_of(sheet, at, 0);
-    if !is_free_chain(sheet, first, depth, at) {
-        return FreeChain::Corrupt;
+
+    // The inspections of a lot from the record `at` on, whose serials fall from `serial` to 1. The units of
+    // the `test` oldest ones must be undecided, and those at each stage end below. They are counted before
+    // they are tested, so the older ones come first: a call for each number tested, at most eight deep.
+    fn inspections(self, lot: u32, serial: u32, at: usize, test: u32) -> Option<Chain>
+        requires { (serial ≤ 1000) × (test < serial) }
+        ensures { result ≡ chain_of (tested (stages self.entry.plan.now) test) (read_inspections self.entry.first self.entry.sheet.now lot serial at) }
+    {
+        let newer = self.newer_part(lot, serial, at, test)?;
+        // before the first unit every lot is undecided
+        if test == 0 {
+            return newer.ended();
+        }
+        let below = plan::end_below(self.plan, 0, test);
+        let older = self.inspections(lot, test, newer.next, below)?;
+        self.joined(older, newer.chain)
     }
-    FreeChain::Whole(depth)
+
+    // As `inspections`, where nothing is tested.
+    fn whole_chain(self, lot: u32, serial: u32, at: usize) -> Option<Chain>
+        requires { (serial ≤ 1000) × (0 < serial) }
+        ensures { result ≡ chain_of (tested (stages self.entry.plan.now) 0) (read_inspections self.entry.first self.entry.sheet.now lot serial at) }
+    {
+        self.newer_part(lot, serial, at, 0)?.ended()
+    }
+
+    // As `inspections`, where no stage ends below `test`. It does not call itself, so that it is compiled into
+    // the walk over the lots; most lots come here.
+    fn in_first_stage(self, lot: u32, serial: u32, at: usize, test: u32) -> Option<Chain>
+        requires { (serial ≤ 1000) × (0 < test) × (test < serial) × (0 ≡ end_below 0 (stages self.plan.now) test) }
+        ensures { result ≡ chain_of (tested (stages self.entry.plan.now) test) (read_inspections self.entry.first self.entry.sheet.now lot serial at) }
+    {
+        let newer = self.newer_part(lot, serial, at, test)?;
+        let older = self.whole_chain(lot, test, newer.next)?;
+        self.joined(older, newer.chain)
+    }
+
+    // The inspections of the lot in the record `lot`, the newest in the record `newest` (0: none).
+    pub fn lot_inspections(self, lot: u32, newest: u32) -> Option<Chain>
+        ensures { result ≡ chain_of (undecided_before (stages self.entry.plan.now)) (read_inspections self.entry.first self.entry.sheet.now lot (serial_at self.entry.sheet.now newest) newest) }
+    {
+        if newest == 0 {
+            return Some(Chain::none());
+        }
+        if !self.is_used(newest as usize) {
+            return None;
+        }
+        let serial = field_of(self.sheet, newest, TAG);
+        if serial == 0 || self.most < serial {
+            return None;
+        }
+        if serial == 1 {
+            return self.whole_chain(lot, serial, newest as usize);
+        }
+        if plan::end_below(self.plan, 0, serial - 1) == 0 {
+            return self.in_first_stage(lot, serial, newest as usize, serial - 1);
+        }
+        self.inspections(lot, serial, newest as usize, serial - 1)
+    }
+
+    // The record `at`, if it is the free record of this depth.
+    fn free(self, depth: u32, at: usize) -> Option<Record>
+        ensures { result ≡ cond (is_free self.entry.first self.entry.sheet.now depth at) (Some (record_at self.entry.sheet.now at)) None }
+    {
+        if !self.is_used(at) {
+            return None;
+        }
+        let r = record_at(self.sheet, at);
+        if r.value == depth && r.link == 0 && r.tag == FREE_TAG {
+            Some(r)
+        } else {
+            None
+        }
+    }
+
+    // Is the chain of free records from `at` on whole, of this depth?
+    fn is_free_chain(self, depth: u32, at: usize) -> bool
+        ensures { result ≡ is_some (read_free self.entry.first self.entry.sheet.now depth at) }
+    {
+        let mut next = at;
+        for older in (0..depth).rev() {
+            match self.free(older + 1, next) {
+                None => return false,
+                Some(r) => next = r.next as usize,
+            }
+        }
+        next == 0
+    }
+
+    // The number of free records, if their chain is whole.
+    pub fn free_chain(self) -> Option<u32>
+        ensures { result ≡ free_of (read_free self.entry.first self.entry.sheet.now (depth self.entry.sheet.now) (word self.entry.sheet.now first_free)) }
+    {
+        let at = self.sheet[FIRST_FREE];
+        if at == 0 {
+            return Some(0);
+        }
+        if !self.is_used(at as usize) {
+            return None;
+        }
+        let depth = field_of(self.sheet, at, VALUE);
+        if self.is_free_chain(depth, at as usize) {
+            Some(depth)
+        } else {
+            None
+        }
+    }
 }

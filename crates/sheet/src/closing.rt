@@ -13,13 +13,13 @@ pub fn close(sheet: &mut [u32], lot: u32) -> Result<(), Refusal>
     ensures sheet_after { sheet.new ≡ (close lot sheet.old).words }
 {
     let found = locate_lot(sheet, lot)?;
-    let answer = answer_to(sheet, found.counts);
+    let answer = answer_to(sheet, found.chain.counts);
     if answer.goes_on() {
         return Err(Refusal::Undecided);
     }
     if are_full(sheet) {
         return Err(Refusal::TotalsFull);
     }
-    remove_lot(sheet, found.at, found.before, answer, found.counts);
+    remove_lot(sheet, found.at, found.before, answer, found.chain.counts);
     Ok(())
 }

@@ -7,7 +7,7 @@ ghost use Rattle.sheet.specs.Estimating.{units_of_class, without_unit, evidence_
 use crate::layout::STAGE_COUNT;
 use crate::locating::locate_lot;
 use crate::progress::answer_to;
-use crate::record::field_of;
+use crate::record::{LINK, VALUE, field_of};
 use plan::{Counts, Refusal};
 use sheetmodel::Estimate;
 
@@ -16,17 +16,20 @@ fn without_unit(class: u32, c: Counts) -> Counts
     requires { 1 ≤ units_of_class class c }
     ensures { result ≡ without_unit class c }
 {
-    let mut less = c;
-    if class == 0 {
-        less.good = c.good - 1;
-        return less;
+    match class {
+        0 => Counts {
+            good: c.good - 1,
+            ..c
+        },
+        2 => Counts {
+            bad: c.bad - 1,
+            ..c
+        },
+        _ => Counts {
+            marginal: c.marginal - 1,
+            ..c
+        },
     }
-    if class == 2 {
-        less.bad = c.bad - 1;
-        return less;
-    }
-    less.marginal = c.marginal - 1;
-    less
 }
 
 // The units that an estimate counts: the only one, else all but the last, which has this class.
@@ -45,14 +48,14 @@ pub fn estimate(sheet: &[u32], lot: u32) -> Result<Estimate, Refusal>
     ensures { result ≡ (estimate lot sheet.now).reply }
 {
     let found = locate_lot(sheet, lot)?;
-    if answer_to(sheet, found.counts).goes_on() {
+    if answer_to(sheet, found.chain.counts).goes_on() {
         return Err(Refusal::Undecided);
     }
     if 1 < sheet[STAGE_COUNT] {
         return Err(Refusal::SeveralStages);
     }
-    let newest = field_of(sheet, found.at, 2);
-    let c = evidence(field_of(sheet, newest, 0), found.counts);
+    let newest = field_of(sheet, found.at, LINK);
+    let c = evidence(field_of(sheet, newest, VALUE), found.chain.counts);
     Ok(Estimate {
         good: u64::from(c.good),
         marginal: u64::from(c.marginal),

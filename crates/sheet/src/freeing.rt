@@ -6,7 +6,7 @@ ghost use Rattle.sheetmodel.specs.Calls.{free_record, free_inspections};
 ghost use Rattle.sheet.specs.Writes.{InWords, Freeing, read_chain, chain};
 
 use crate::layout::{FIRST_FREE, FREE_TAG};
-use crate::record::{field_of, put_record};
+use crate::record::{NEXT, Record, VALUE, field_of, put_record};
 
 // The depth of the first free record; 0 if there is none.
 pub fn depth_of(sheet: &[u32]) -> u32
@@ -17,16 +17,20 @@ pub fn depth_of(sheet: &[u32]) -> u32
     if free == 0 {
         return 0;
     }
-    field_of(sheet, free, 0)
+    field_of(sheet, free, VALUE)
 }
 
 pub fn free_record(sheet: &mut [u32], j: u32)
     requires { Freeing sheet.old 1 × InWords sheet.old j }
     ensures { sheet.new ≡ free_record sheet.old j }
 {
-    let depth = depth_of(sheet);
-    let free = sheet[FIRST_FREE];
-    put_record(sheet, j, depth + 1, free, 0, FREE_TAG);
+    let freed = Record {
+        value: depth_of(sheet) + 1,
+        next: sheet[FIRST_FREE],
+        link: 0,
+        tag: FREE_TAG,
+    };
+    put_record(sheet, j, freed);
     sheet[FIRST_FREE] = j;
 }
 
@@ -38,12 +42,10 @@ pub fn free_inspections(sheet: &mut [u32], lot: u32, count: u32, newest: u32)
     ensures still_freeing { Freeing sheet.new 1 }
     ensures sheet_after { sheet.new ≡ free_inspections sheet.old (chain sheet.old lot count newest) }
 {
-    let mut left = count;
     let mut at = newest;
-    while 0 < left {
-        let older = field_of(sheet, at, 1);
+    for _ in 0..count {
+        let older = field_of(sheet, at, NEXT);
         free_record(sheet, at);
         at = older;
-        left = left - 1;
     }
 }

@@ -10,7 +10,7 @@ ghost use Rattle.sheetmodel.specs.Layout.{least_size};
 
 use crate::layout::{FIRST_FREE, NEXT_UNUSED};
 use crate::offices::may_take;
-use crate::record::{field_of, record_count};
+use crate::record::{NEXT, field_of, record_count};
 use plan::Refusal;
 
 // Is no record free or unused?
@@ -56,7 +56,7 @@ pub fn take_record(sheet: &mut [u32])
 {
     let free = sheet[FIRST_FREE];
     if free != 0 {
-        sheet[FIRST_FREE] = field_of(sheet, free, 1);
+        sheet[FIRST_FREE] = field_of(sheet, free, NEXT);
         return;
     }
     sheet[NEXT_UNUSED] = sheet[NEXT_UNUSED] + 1;

@@ -9,32 +9,40 @@ use crate::layout::{
     REJECTED_LOTS, STAGE_COUNT,
 };
 use crate::record::record_count;
+use crate::size::Sheet;
 use crate::sums::sum_of;
 
-// Where the plan's words end.
-fn plan_end(sheet: &[u32]) -> usize
-    requires { (least_size ≤ length sheet.now) × (word sheet.now stage_count ≤ 7) }
-    ensures { result ≡ plan_start + 5 * word sheet.now stage_count }
-{
-    PLAN_START + 5 * sheet[STAGE_COUNT] as usize
+// A header with no more stages than it has room for.
+#[derive(Clone, Copy)]
+pub struct Header<'a> {
+    pub words: &'a [u32],
+    pub ghost long: { least_size ≤ length words.now },
+    pub ghost few: { word words.now stage_count ≤ 7 },
 }
 
-// The plan in the header.
-pub fn plan_of(sheet: &[u32]) -> &[u32]
-    requires { (least_size ≤ length sheet.now) × (word sheet.now stage_count ≤ 7) }
-    ensures { result.now ≡ plan_words sheet.now }
-{
-    let end = plan_end(sheet);
-    &sheet[PLAN_START..end]
-}
+impl<'a> Header<'a> {
+    // Where the plan's words end.
+    fn plan_end(self) -> usize
+        ensures { result ≡ plan_start + 5 * word self.entry.words.now stage_count }
+    {
+        PLAN_START + 5 * self.words[STAGE_COUNT] as usize
+    }
 
-// The words of the stages that the plan does not use.
-fn unused_stages(sheet: &[u32]) -> &[u32]
-    requires { (least_size ≤ length sheet.now) × (word sheet.now stage_count ≤ 7) }
-    ensures { result.now ≡ unused_stages sheet.now }
-{
-    let end = plan_end(sheet);
-    &sheet[end..ACCEPTED_LOTS]
+    // The plan in the header.
+    pub fn plan(self) -> &'a [u32]
+        ensures { result.now ≡ plan_words self.entry.words.now }
+    {
+        let end = self.plan_end();
+        &self.words[PLAN_START..end]
+    }
+
+    // The words of the stages that the plan does not use.
+    fn unused_stages(self) -> &'a [u32]
+        ensures { result.now ≡ unused_stages self.entry.words.now }
+    {
+        let end = self.plan_end();
+        &self.words[end..ACCEPTED_LOTS]
+    }
 }
 
 // By their sum: a test of each word would leave the loop at the first that is not 0, and so take them one by
@@ -46,39 +54,30 @@ fn is_zero(words: &[u32]) -> bool
     sum_of(words) == 0
 }
 
-// Are the totals within their bounds?
-fn totals_ok(sheet: &[u32]) -> bool
-    requires { least_size ≤ length sheet.now }
-    ensures { result ≡ totals_ok sheet.now }
-{
-    let lots = sheet[ACCEPTED_LOTS] as u64 + sheet[REJECTED_LOTS] as u64;
-    let units = sheet[GOOD_UNITS] as u64 + sheet[MARGINAL_UNITS] as u64 + sheet[BAD_UNITS] as u64;
-    if MOST_CLOSED < lots {
-        return false;
+impl Sheet<'_> {
+    // Are the totals within their bounds?
+    fn totals_ok(self) -> bool
+        ensures { result ≡ totals_ok self.entry.words.now }
+    {
+        let lots = u64::from(self.words[ACCEPTED_LOTS]) + u64::from(self.words[REJECTED_LOTS]);
+        let units = u64::from(self.words[GOOD_UNITS])
+            + u64::from(self.words[MARGINAL_UNITS])
+            + u64::from(self.words[BAD_UNITS]);
+        lots <= MOST_CLOSED && units <= 1000 * lots
     }
-    units <= 1000 * lots
-}
 
-// `first` is the first record after the header.
-pub fn header_ok(sheet: &[u32], first: u32) -> bool
-    requires { (least_size ≤ length sheet.now) × (length sheet.now ≤ greatest_size) }
-    ensures { result ≡ header_ok first sheet.now }
-{
-    if 7 < sheet[STAGE_COUNT] {
-        return false;
+    // `first` is the first record after the header.
+    pub fn header_ok(self, first: u32) -> bool
+        ensures { result ≡ header_ok first self.entry.words.now }
+    {
+        if 7 < self.words[STAGE_COUNT] {
+            return false;
+        }
+        let header = Header { words: self.words };
+        if !plan::admitted(header.plan()) || !is_zero(header.unused_stages()) {
+            return false;
+        }
+        let unused = self.words[NEXT_UNUSED] as usize;
+        first as usize <= unused && unused <= record_count(self.words) && self.totals_ok()
     }
-    if !plan::admitted(plan_of(sheet)) {
-        return false;
-    }
-    if !is_zero(unused_stages(sheet)) {
-        return false;
-    }
-    let unused = sheet[NEXT_UNUSED] as usize;
-    if unused < first as usize {
-        return false;
-    }
-    if record_count(sheet) < unused {
-        return false;
-    }
-    totals_ok(sheet)
 }

@@ -18,10 +18,10 @@ pub fn inspect(sheet: &mut [u32], lot: u32, class: u32) -> Result<(), Refusal>
     if plan::HIGHEST_CLASS < class {
         return Err(Refusal::Class);
     }
-    if !answer_to(sheet, found.counts).goes_on() {
+    if !answer_to(sheet, found.chain.counts).goes_on() {
         return Err(Refusal::Decided);
     }
     grant_record(sheet, &held, lot)?;
-    add_inspection(sheet, found.at, found.counts.units(), class);
+    add_inspection(sheet, found.at, found.chain.counts.units(), class);
     Ok(())
 }

@@ -17,6 +17,7 @@ mod offices;
 mod opening;
 mod progress;
 mod record;
+mod records;
 mod size;
 mod striking;
 mod sums;

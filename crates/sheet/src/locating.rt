@@ -7,9 +7,8 @@ ghost use Rattle.sheet.specs.Locating.{located};
 ghost use Rattle.sheet.specs.Sharing.{CountedOn};
 
 use crate::layout::FIRST_RECORD;
-use crate::offices::shares_fit;
-use crate::size::size_ok;
-use crate::survey::{Found, Surveyed, survey};
+use crate::size::{Sheet, size_ok};
+use crate::survey::Found;
 use plan::Refusal;
 
 // Rows 1 and 3; `held` takes what each office holds.
@@ -21,13 +20,13 @@ pub fn locate_and_count(sheet: &[u32], lot: u32, held: &mut [u32; 16]) -> Result
     if !size_ok(sheet) {
         return Err(Refusal::Size);
     }
-    if !shares_fit(sheet) {
+    let sheet = Sheet { words: sheet };
+    if !sheet.shares_fit() {
         return Err(Refusal::Corrupt);
     }
-    match survey(sheet, FIRST_RECORD, lot, held) {
-        Surveyed::Corrupt => Err(Refusal::Corrupt),
-        Surveyed::Intact(f) => Ok(f),
-    }
+    sheet
+        .survey(FIRST_RECORD, lot, held)
+        .ok_or(Refusal::Corrupt)
 }
 
 // Rows 1, 3 and 6; `held` takes what each office holds.

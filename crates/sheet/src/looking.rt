@@ -13,12 +13,12 @@ pub fn look(sheet: &[u32], lot: u32) -> Result<Shown, Refusal>
 {
     let found = locate_lot(sheet, lot)?;
     Ok(Shown {
-        answer: answer_to(sheet, found.counts),
-        units: found.counts.units(),
-        good: found.counts.good,
-        marginal: found.counts.marginal,
-        bad: found.counts.bad,
-        blanks: found.blanks,
+        answer: answer_to(sheet, found.chain.counts),
+        units: found.chain.counts.units(),
+        good: found.chain.counts.good,
+        marginal: found.chain.counts.marginal,
+        bad: found.chain.counts.bad,
+        blanks: found.chain.blanks,
     })
 }
 

@@ -9,30 +9,30 @@ ghost use Rattle.sheet.specs.Sharing.{WholeSheet, HeldBy, with_lot_held};
 use crate::freeing::depth_of;
 use crate::layout::{FIRST_RECORD, NEXT_UNUSED, OFFICES, SHARES_START};
 use crate::record::record_count;
+use crate::size::Sheet;
 use crate::sums::sum_of;
 
-// Are there as many records after the header?
-fn has_records(sheet: &[u32], n: u64) -> bool
-    requires { (least_size ≤ length sheet.now) × (length sheet.now ≤ greatest_size) }
-    ensures { result ≡ leb n (records sheet.now - first_record) }
-{
-    n <= record_count(sheet) as u64 - FIRST_RECORD as u64
-}
+impl Sheet<'_> {
+    // Are there as many records after the header?
+    fn has_records(self, n: u64) -> bool
+        ensures { result ≡ leb n (records self.entry.words.now - first_record) }
+    {
+        n <= record_count(self.words) as u64 - u64::from(FIRST_RECORD)
+    }
 
-// Do the shares in the header add to no more than the records after it?
-pub fn shares_fit(sheet: &[u32]) -> bool
-    requires { (least_size ≤ length sheet.now) × (length sheet.now ≤ greatest_size) }
-    ensures { result ≡ shares_fit (share sheet.now) sheet.now }
-{
-    has_records(sheet, sum_of(&sheet[SHARES_START..SHARES_START + OFFICES]))
-}
+    // Do the shares in the header add to no more than the records after it?
+    pub fn shares_fit(self) -> bool
+        ensures { result ≡ shares_fit (share self.entry.words.now) self.entry.words.now }
+    {
+        self.has_records(sum_of(&self.words[SHARES_START..SHARES_START + OFFICES]))
+    }
 
-// Would these?
-pub fn given_shares_fit(sheet: &[u32], shares: &[u32; 16]) -> bool
-    requires { (least_size ≤ length sheet.now) × (length sheet.now ≤ greatest_size) }
-    ensures { result ≡ shares_fit (word shares.now) sheet.now }
-{
-    has_records(sheet, sum_of(shares))
+    // Would these?
+    pub fn given_shares_fit(self, shares: &[u32; 16]) -> bool
+        ensures { result ≡ shares_fit (word shares.now) self.entry.words.now }
+    {
+        self.has_records(sum_of(shares))
+    }
 }
 
 fn office_of(lot: u32) -> usize
@@ -50,26 +50,14 @@ pub fn count_lot(held: &mut [u32; 16], lot: u32, inspections: u32)
     held[o] = held[o] + (1 + inspections);
 }
 
-// What an office lacks to reach its share, not below 0.
-fn lacking(share: u32, held: u32) -> u32
-    ensures { result ≡ share - held }
-{
-    if held < share {
-        return share - held;
-    }
-    0
-}
-
 // What the offices lack to reach their shares, added up.
 fn all_lacking(sheet: &[u32], held: &[u32; 16]) -> u64
     requires { least_size ≤ length sheet.now }
     ensures { result ≡ added_up offices (λ o. share sheet.now o - word held.now o) }
 {
     let mut sum: u64 = 0;
-    let mut o: usize = 0;
-    while o < OFFICES {
-        sum += lacking(sheet[SHARES_START + o], held[o]) as u64;
-        o += 1;
+    for o in 0..OFFICES {
+        sum += u64::from(sheet[SHARES_START + o].saturating_sub(held[o]));
     }
     sum
 }

@@ -5,12 +5,12 @@ ghost use Rattle.plan.specs.Counts.{units};
 ghost use Rattle.plan.specs.Stopping.{earliest};
 ghost use Rattle.sheetmodel.specs.Layout.{least_size, plan_words};
 
-use crate::header::plan_of;
+use crate::header::Header;
 use plan::{Answer, Counts};
 
 pub fn answer_to(sheet: &[u32], c: Counts) -> Answer
     requires { (least_size ≤ length sheet.now) × (admitted (plan_words sheet.now) ≡ true) × (units c ≤ 1000) }
     ensures { result ≡ earliest (stages (plan_words sheet.now)) c }
 {
-    plan::earliest(plan_of(sheet), c)
+    plan::earliest(Header { words: sheet }.plan(), c)
 }

@@ -1,6 +1,6 @@
 // Records of a sheet, four words each, by their index. Document 01, "Sheet".
-ghost use Rattle.std.specs.Prelude.{◌≡◌, ◌+◌, ◌*◌, ◌≤◌, ◌<◌, length};
-ghost use Rattle.sheetmodel.specs.Layout.{greatest_size, records, field, put, put_record};
+ghost use Rattle.std.specs.Prelude.{◌≡◌, ◌+◌, ◌*◌, ◌<◌, length};
+ghost use Rattle.sheetmodel.specs.Layout.{records, field, put, put_record};
 ghost use Rattle.sheet.specs.Survey.{record_at};
 
 // The four words of a record: of a lot number, next lot, newest inspection and 0; of an inspection
@@ -13,6 +13,15 @@ pub struct Record {
     pub tag: u32,
 }
 
+// The places of a record's words.
+pub const VALUE: usize = 0;
+
+pub const NEXT: usize = 1;
+
+pub const LINK: usize = 2;
+
+pub const TAG: usize = 3;
+
 // How many whole records there are.
 pub fn record_count(sheet: &[u32]) -> usize
     ensures { result ≡ records sheet.now }
@@ -20,38 +29,38 @@ pub fn record_count(sheet: &[u32]) -> usize
     sheet.len() / 4
 }
 
-pub fn field_of(sheet: &[u32], j: u32, f: u32) -> u32
-    requires { (4 * j + f < length sheet.now) × (length sheet.now ≤ greatest_size) }
+pub fn field_of(sheet: &[u32], j: u32, f: usize) -> u32
+    requires { 4 * j + f < length sheet.now }
     ensures { result ≡ field sheet.now j f }
 {
-    sheet[(4 * j + f) as usize]
+    sheet[4 * j as usize + f]
 }
 
-pub fn record_at(sheet: &[u32], j: u32) -> Record
-    requires { (4 * j + 3 < length sheet.now) × (length sheet.now ≤ greatest_size) }
+pub fn record_at(sheet: &[u32], j: usize) -> Record
+    requires { 4 * j + 3 < length sheet.now }
     ensures { result ≡ record_at sheet.now j }
 {
     Record {
-        value: field_of(sheet, j, 0),
-        next: field_of(sheet, j, 1),
-        link: field_of(sheet, j, 2),
-        tag: field_of(sheet, j, 3),
+        value: sheet[4 * j + VALUE],
+        next: sheet[4 * j + NEXT],
+        link: sheet[4 * j + LINK],
+        tag: sheet[4 * j + TAG],
     }
 }
 
-pub fn put_field(sheet: &mut [u32], j: u32, f: u32, v: u32)
-    requires { (4 * j + f < length sheet.old) × (length sheet.old ≤ greatest_size) }
+pub fn put_field(sheet: &mut [u32], j: u32, f: usize, v: u32)
+    requires { 4 * j + f < length sheet.old }
     ensures { sheet.new ≡ put sheet.old j f v }
 {
-    sheet[(4 * j + f) as usize] = v;
+    sheet[4 * j as usize + f] = v;
 }
 
-pub fn put_record(sheet: &mut [u32], j: u32, value: u32, next: u32, link: u32, tag: u32)
-    requires { (4 * j + 3 < length sheet.old) × (length sheet.old ≤ greatest_size) }
-    ensures { sheet.new ≡ put_record sheet.old j value next link tag }
+pub fn put_record(sheet: &mut [u32], j: u32, r: Record)
+    requires { 4 * j + 3 < length sheet.old }
+    ensures { sheet.new ≡ put_record sheet.old j r.value r.next r.link r.tag }
 {
-    put_field(sheet, j, 0, value);
-    put_field(sheet, j, 1, next);
-    put_field(sheet, j, 2, link);
-    put_field(sheet, j, 3, tag);
+    put_field(sheet, j, VALUE, r.value);
+    put_field(sheet, j, NEXT, r.next);
+    put_field(sheet, j, LINK, r.link);
+    put_field(sheet, j, TAG, r.tag);
 }

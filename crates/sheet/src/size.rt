@@ -1,15 +1,19 @@
 // The sizes that a sheet may have. Document 01, "Sheet".
-ghost use Rattle.std.specs.Prelude.{◌≡◌};
-ghost use Rattle.sheetmodel.specs.Layout.{size_ok};
+ghost use Rattle.std.specs.Prelude.{◌≡◌, ◌≤◌, length};
+ghost use Rattle.sheetmodel.specs.Layout.{least_size, greatest_size, size_ok};
 
 use crate::layout::{GREATEST_SIZE, LEAST_SIZE};
 
 pub fn size_ok(sheet: &[u32]) -> bool
     ensures { result ≡ size_ok sheet.now }
 {
-    let size = sheet.len();
-    if size < LEAST_SIZE {
-        return false;
-    }
-    size <= GREATEST_SIZE
+    LEAST_SIZE <= sheet.len() && sheet.len() <= GREATEST_SIZE
+}
+
+// As many words as a sheet may have.
+#[derive(Clone, Copy)]
+pub struct Sheet<'a> {
+    pub words: &'a [u32],
+    pub ghost long: { least_size ≤ length words.now },
+    pub ghost short: { length words.now ≤ greatest_size },
 }

@@ -11,7 +11,7 @@ pub fn strike(sheet: &mut [u32], lot: u32) -> Result<(), Refusal>
     ensures sheet_after { sheet.new ≡ (strike lot sheet.old).words }
 {
     let found = locate_lot(sheet, lot)?;
-    if found.counts.units() == 0 {
+    if found.chain.counts.units() == 0 {
         return Err(Refusal::NoUnit);
     }
     remove_newest(sheet, found.at);

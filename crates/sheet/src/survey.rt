@@ -1,154 +1,138 @@
-// One walk over a sheet: is it intact, where is the lot of a number, and what does each office hold? `first`
-// is the first record after the header.
-ghost use Rattle.std.specs.Prelude.{◌≡◌, true, ◌+◌, ◌≤◌, length, replicate, eqb};
+// One walk over a sheet: is it intact, where is the lot of a number, and what does each office hold?
+ghost use Rattle.std.specs.Prelude.{◌≡◌, ◌+◌, ◌≤◌, replicate, eqb, cond};
 ghost use Rattle.std.proofs.Math.Option.{some};
-ghost use Rattle.plan.specs.Plan.{stages, total, admitted};
+ghost use Rattle.plan.specs.Plan.{stages};
 ghost use Rattle.plan.specs.Counts.{units};
-ghost use Rattle.sheetmodel.specs.Layout.{least_size, greatest_size, next_unused, first_lot, word, records, offices};
+ghost use Rattle.sheetmodel.specs.Layout.{next_unused, first_lot, word, records, offices};
 ghost use Rattle.sheetmodel.specs.Read.{then, read_from, read_lots};
-ghost use Rattle.sheet.specs.Survey.{Sized, is_lot, with_lot_found, nothing_found, lots_survey, survey_of};
+ghost use Rattle.sheet.specs.Survey.{record_at, is_lot, with_lot_found, nothing_found, lots_survey, survey_of};
 ghost use Rattle.sheet.specs.Sharing.{Counted};
 
-use crate::chain::{Chain, FreeChain, free_chain, is_used, lot_inspections};
-use crate::header::{header_ok, plan_of};
+use crate::chain::Chain;
+use crate::header::Header;
 use crate::layout::{FIRST_LOT, NEXT_UNUSED};
 use crate::offices::count_lot;
-use crate::record::{record_at, record_count};
-use plan::Counts;
+use crate::record::{Record, record_at, record_count};
+use crate::records::Records;
+use crate::size::Sheet;
 
-// What is found for a lot's number: its record, its units and the blanks among them, 0 and none where
-// it is not on the sheet; the record before it, whose next lot it is or would be; and the records that
-// all lots and their inspections use.
+// What is found for a lot's number: its record and its chain, 0 and no units where it is not on the
+// sheet; the record before it, whose next lot it is or would be; and the records that all lots and
+// their inspections use.
 #[derive(Clone, Copy)]
 pub struct Found {
     pub used: u32,
     pub before: u32,
     pub at: u32,
-    pub blanks: u32,
-    pub counts: Counts,
+    pub chain: Chain,
 }
 
-#[derive(Clone, Copy)]
-pub enum Surveyed {
-    Corrupt,
-    Intact(Found),
+impl Found {
+    // With the lot in the record `at`, of this number and chain, more.
+    fn with_lot(self, sought: u32, at: u32, number: u32, chain: Chain) -> Found
+        requires { (units chain.counts ≤ 1000) × (self.used + (1 + units chain.counts) ≤ 4294967295) }
+        ensures { result ≡ with_lot_found sought self at number chain }
+    {
+        let used = self.used + (1 + chain.counts.units());
+        if number < sought {
+            return Found {
+                used,
+                before: at,
+                ..self
+            };
+        }
+        if number == sought {
+            return Found {
+                used,
+                at,
+                chain,
+                ..self
+            };
+        }
+        Found { used, ..self }
+    }
 }
 
-// Is this a lot's record, with a number above the last one?
-fn is_lot(sheet: &[u32], first: u32, above: u32, at: u32) -> bool
-    requires { Sized sheet.now }
-    ensures { result ≡ is_lot first sheet.now above at }
-{
-    if !is_used(sheet, first, at) {
-        return false;
+impl Records<'_> {
+    // The record `at`, if it is a lot's, with a number above the last one.
+    fn lot(self, above: u32, at: usize) -> Option<Record>
+        ensures { result ≡ cond (is_lot self.entry.first self.entry.sheet.now above at) (Some (record_at self.entry.sheet.now at)) None }
+    {
+        if !self.is_used(at) {
+            return None;
+        }
+        let r = record_at(self.sheet, at);
+        if above < r.value && r.tag == 0 {
+            Some(r)
+        } else {
+            None
+        }
     }
-    let r = record_at(sheet, at);
-    if r.value <= above {
-        return false;
-    }
-    r.tag == 0
-}
 
-// What is found so far, with the lot in the record `at`, of this number, units and blanks, more.
-fn with_lot_found(sought: u32, f: Found, at: u32, number: u32, c: Counts, blanks: u32) -> Found
-    requires { (units c ≤ 1000) × (f.used + (1 + units c) ≤ 4294967295) }
-    ensures { result ≡ with_lot_found sought f at number c blanks }
-{
-    let used = f.used + (1 + c.units());
-    let mut next = f;
-    next.used = used;
-    if number < sought {
-        next.before = at;
-        return next;
-    }
-    if sought == number {
-        next.at = at;
-        next.counts = c;
-        next.blanks = blanks;
-    }
-    next
-}
-
-// The lots and their inspections, of which a lot has at most `most`, the sample size. `held` takes what each
-// office holds of them.
-fn lots(
-    sheet: &[u32],
-    first: u32,
-    plan: &[u32],
-    most: u32,
-    sought: u32,
-    held: &mut [u32; 16],
-) -> Surveyed
-    requires { Sized sheet.now × (admitted plan.now ≡ true) × (most ≡ total (stages plan.now)) × (held.old ≡ replicate offices 0) }
-    ensures value { result ≡ lots_survey (stages plan.now) sought nothing_found (read_lots first sheet.now (records sheet.now) 0 (word sheet.now first_lot)) }
-    ensures counted { Counted result (read_lots first sheet.now (records sheet.now) 0 (word sheet.now first_lot)) held.new }
-{
-    let mut f = Found {
-        used: 0,
-        before: 0,
-        at: 0,
-        blanks: 0,
-        counts: Counts::none(),
-    };
-    let mut left = record_count(sheet);
-    let mut above: u32 = 0;
-    let mut at = sheet[FIRST_LOT];
-    while 0 < left {
+    // The lots and their inspections. `held` takes what each office holds of them.
+    fn lots(self, sought: u32, held: &mut [u32; 16]) -> Option<Found>
+        requires { held.old ≡ replicate offices 0 }
+        ensures value { result ≡ lots_survey (stages self.entry.plan.now) sought nothing_found (read_lots self.entry.first self.entry.sheet.now (records self.entry.sheet.now) 0 (word self.entry.sheet.now first_lot)) }
+        ensures counted { Counted result (read_lots self.entry.first self.entry.sheet.now (records self.entry.sheet.now) 0 (word self.entry.sheet.now first_lot)) held.new }
+    {
+        let mut found = Found {
+            used: 0,
+            before: 0,
+            at: 0,
+            chain: Chain::none(),
+        };
+        let mut above: u32 = 0;
+        let mut at = self.sheet[FIRST_LOT];
+        for _ in 0..record_count(self.sheet) {
+            if at == 0 {
+                return Some(found);
+            }
+            let r = self.lot(above, at as usize)?;
+            let chain = self.lot_inspections(at, r.link)?;
+            found = found.with_lot(sought, at, r.value, chain);
+            count_lot(held, r.value, chain.counts.units());
+            above = r.value;
+            at = r.next;
+        }
         if at == 0 {
-            return Surveyed::Intact(f);
+            return Some(found);
         }
-        if !is_lot(sheet, first, above, at) {
-            return Surveyed::Corrupt;
-        }
-        let r = record_at(sheet, at);
-        match lot_inspections(sheet, first, plan, most, at, r.link) {
-            Chain::Corrupt => {
-                return Surveyed::Corrupt;
-            }
-            Chain::Whole(c, blanks) => {
-                f = with_lot_found(sought, f, at, r.value, c, blanks);
-                count_lot(held, r.value, c.units());
-                above = r.value;
-                at = r.next;
-                left -= 1;
-            }
-        }
+        None
     }
-    if at == 0 {
-        return Surveyed::Intact(f);
+
+    // Are the records on chains as many as are in use?
+    fn count_ok(self, used: u32, free: u32) -> bool
+        ensures { result ≡ eqb (self.entry.first + (used + free)) (word self.entry.sheet.now next_unused) }
+    {
+        self.first as u64 + (used as u64 + free as u64) == self.sheet[NEXT_UNUSED] as u64
     }
-    Surveyed::Corrupt
 }
 
-// Are the records on chains as many as are in use?
-fn count_ok(sheet: &[u32], first: u32, used: u32, free: u32) -> bool
-    requires { least_size ≤ length sheet.now }
-    ensures { result ≡ eqb (first + (used + free)) (word sheet.now next_unused) }
-{
-    first as u64 + (used as u64 + free as u64) == sheet[NEXT_UNUSED] as u64
-}
-
-// The survey of a sheet for the lot number that is sought.
-pub fn survey(sheet: &[u32], first: u32, sought: u32, held: &mut [u32; 16]) -> Surveyed
-    requires { (least_size ≤ length sheet.now) × (length sheet.now ≤ greatest_size) × (held.old ≡ replicate offices 0) }
-    ensures value { result ≡ survey_of sought (read_from first sheet.now) }
-    ensures counted { Counted result (then (read_from first sheet.now) (λ s. some s.lots)) held.new }
-{
-    if !header_ok(sheet, first) {
-        return Surveyed::Corrupt;
-    }
-    let plan = plan_of(sheet);
-    let most = plan::sample_size(plan);
-    match lots(sheet, first, plan, most, sought, held) {
-        Surveyed::Corrupt => Surveyed::Corrupt,
-        Surveyed::Intact(f) => match free_chain(sheet, first) {
-            FreeChain::Corrupt => Surveyed::Corrupt,
-            FreeChain::Whole(free) => {
-                if !count_ok(sheet, first, f.used, free) {
-                    return Surveyed::Corrupt;
-                }
-                Surveyed::Intact(f)
-            }
-        },
+impl Sheet<'_> {
+    // The survey for the lot number that is sought. `first` is the first record after the header.
+    pub fn survey(self, first: u32, sought: u32, held: &mut [u32; 16]) -> Option<Found>
+        requires { held.old ≡ replicate offices 0 }
+        ensures value { result ≡ survey_of sought (read_from first self.entry.words.now) }
+        ensures counted { Counted result (then (read_from first self.entry.words.now) (λ s. some s.lots)) held.new }
+    {
+        if !self.header_ok(first) {
+            return None;
+        }
+        let sheet = self.words;
+        let plan = Header { words: sheet }.plan();
+        let most = plan::sample_size(plan);
+        let records = Records {
+            sheet,
+            first,
+            plan,
+            most,
+        };
+        let found = records.lots(sought, held)?;
+        let free = records.free_chain()?;
+        if records.count_ok(found.used, free) {
+            Some(found)
+        } else {
+            None
+        }
     }
 }

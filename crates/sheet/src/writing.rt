@@ -6,7 +6,7 @@ ghost use Rattle.sheet.specs.Writes.{InWords, Room, Striking, Closing, lot_at};
 
 use crate::freeing::{free_inspections, free_record};
 use crate::granting::{new_record, take_record};
-use crate::record::{field_of, put_field, put_record};
+use crate::record::{LINK, NEXT, Record, field_of, put_field, put_record};
 use crate::totals::add_totals;
 use plan::{Answer, Counts};
 
@@ -16,10 +16,16 @@ pub fn add_lot(sheet: &mut [u32], number: u32, before: u32)
     ensures { sheet.new ≡ with_lot sheet.old number before (new_record sheet.old) }
 {
     let j = new_record(sheet);
-    let next = field_of(sheet, before, 1);
+    let next = field_of(sheet, before, NEXT);
     take_record(sheet);
-    put_record(sheet, j, number, next, 0, 0);
-    put_field(sheet, before, 1, j);
+    let lot = Record {
+        value: number,
+        next,
+        link: 0,
+        tag: 0,
+    };
+    put_record(sheet, j, lot);
+    put_field(sheet, before, NEXT, j);
 }
 
 // A new inspection of the lot in record `at`, which has `count` of them.
@@ -28,10 +34,16 @@ pub fn add_inspection(sheet: &mut [u32], at: u32, count: u32, class: u32)
     ensures { sheet.new ≡ with_inspection sheet.old at count class (new_record sheet.old) }
 {
     let j = new_record(sheet);
-    let newest = field_of(sheet, at, 2);
+    let newest = field_of(sheet, at, LINK);
     take_record(sheet);
-    put_record(sheet, j, class, newest, at, count + 1);
-    put_field(sheet, at, 2, j);
+    let inspection = Record {
+        value: class,
+        next: newest,
+        link: at,
+        tag: count + 1,
+    };
+    put_record(sheet, j, inspection);
+    put_field(sheet, at, LINK, j);
 }
 
 // Takes the newest inspection of the lot in record `at` away.
@@ -39,9 +51,9 @@ pub fn remove_newest(sheet: &mut [u32], at: u32)
     requires { Striking sheet.old at }
     ensures { sheet.new ≡ without_newest sheet.old at (newest sheet.old at) }
 {
-    let j = field_of(sheet, at, 2);
-    let older = field_of(sheet, j, 1);
-    put_field(sheet, at, 2, older);
+    let j = field_of(sheet, at, LINK);
+    let older = field_of(sheet, j, NEXT);
+    put_field(sheet, at, LINK, older);
     free_record(sheet, j);
 }
 
@@ -51,10 +63,10 @@ pub fn remove_lot(sheet: &mut [u32], at: u32, before: u32, answer: Answer, c: Co
     requires { Closing sheet.old at before answer c }
     ensures { sheet.new ≡ without_lot sheet.old before (lot_at sheet.old at) }
 {
-    let next = field_of(sheet, at, 1);
-    let newest = field_of(sheet, at, 2);
+    let next = field_of(sheet, at, NEXT);
+    let newest = field_of(sheet, at, LINK);
     add_totals(sheet, answer, c);
-    put_field(sheet, before, 1, next);
+    put_field(sheet, before, NEXT, next);
     free_inspections(sheet, at, c.units(), newest);
     free_record(sheet, at);
 }

@@ -8,7 +8,8 @@ use mathlib.Core.List.{List, [], ◌∷◌}
 use native.Mathlib.Omega.{arith}
 use lib.ListN.{length}
 use borrow.Author.Tests.{ne_eqb}
-use Rattle.plan.specs.Plan.{Stage, stages, admitted}
+use Rattle.plan.specs.declared.stage.Stage.{Stage}
+use Rattle.plan.specs.Plan.{stages, admitted}
 use Rattle.plan.specs.Counts.{counts, no_units, add_units}
 use Rattle.plan.specs.Refusal.{NoneApplies}
 use Rattle.plan.proofs.Promise.{counting}

@@ -1,6 +1,7 @@
 -- Estimates. Document 01, "Lists, events, estimates"; document 02, change 5; 002, 8.3.
 use Rattle.std.specs.Prelude.{ℕ, ◌+◌, ◌-◌, ◌≤◌, ◌≡◌, ◌≢◌, cond, List, [], ◌∷◌, length, eqb}
-use Rattle.plan.specs.Plan.{Stage, stages}
+use Rattle.plan.specs.declared.stage.Stage.{Stage}
+use Rattle.plan.specs.Plan.{stages}
 use Rattle.plan.specs.Counts.{counts}
 use Rattle.std.specs.declared.result.Result.{Result}
 use Rattle.std.specs.declared.result.Result.TheVariants.{Ok}

@@ -4,7 +4,8 @@
 -- (proofs/Read.antt).
 use Rattle.std.specs.Prelude.{ℕ, suc, ◌+◌, ◌*◌, ◌≤◌, ◌<◌, ◌≡◌, true, List, [], ◌∷◌, length, take}
 use Rattle.plan.specs.declared.stage.Answer.TheVariants.{GoOn}
-use Rattle.plan.specs.Plan.{Stage, stages, admitted}
+use Rattle.plan.specs.declared.stage.Stage.{Stage}
+use Rattle.plan.specs.Plan.{stages, admitted}
 use Rattle.plan.specs.Counts.{counts}
 use Rattle.plan.specs.Stopping.{earliest}
 use Rattle.sheetmodel.specs.Layout.{word, field, next, newest, records, next_unused, first_lot, first_free, stage_count, plan_start, plan_room, plan_words, closed_lots, closed_units, free_tag, most_closed}

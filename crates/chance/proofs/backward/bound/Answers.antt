@@ -1,6 +1,6 @@
 -- The answers for `chance::bound`; Invariants.antt says what its loop goes by. Assumes nothing.
 use Prim.Native.Nat.{◌+◌, ◌-◌}
-use mathlib.Core.Path.{◌≡◌, subst, ◌∙◌}
+use mathlib.Core.Path.{◌≡◌, subst}
 use native.Mathlib.Omega.{arith}
 use Rattle.plan.proofs.Promise.{shape}
 use Rattle.chance.proofs.States.{inside}

@@ -1,6 +1,6 @@
 -- `chance::units_chart` meets its contract: the bounds that are granted, each divided by 2^30, or the refusal. The divisor's literal is
 -- the float 2^30, which `of_bits` computes. Assumes nothing.
-use mathlib.Core.Path.{refl, ap}
+use mathlib.Core.Path.{ap}
 use lib.ListN.{length}
 use lib.Ieee.{of_bits}
 use native.Mathlib.Omega.{arith}

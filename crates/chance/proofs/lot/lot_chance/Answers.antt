@@ -1,16 +1,14 @@
 -- `chance::lot_chance` meets its contract: row by row of the refusals, and then both bounds. Assumes nothing.
-use mathlib.Core.Path.{sym, ap, subst, ◌∙◌}
+use mathlib.Core.Path.{sym, ap, ◌∙◌}
 use mathlib.Core.Logic.{inl, inr}
 use native.Mathlib.Omega.{arith}
 use lib.ListN.{length}
-use Rattle.std.specs.declared.result.Result.{Result}
 use Rattle.std.specs.declared.result.Result.TheVariants.{Err}
 use Rattle.plan.proofs.Promise.{shape}
-use Rattle.chance.specs.declared.mean.Weights.{Weights}
 use Rattle.chance.specs.declared.setting.Kind.TheVariants.{Left}
 use Rattle.chance.specs.Bounds.{weight_sum, Valuation}
 use Rattle.chance.specs.Reply.{weights_of, fitted_answer}
-use Rattle.chance.specs.Lot.{lot_low, lot_high, lot_row, lot_answer, LotKeeps}
+use Rattle.chance.specs.Lot.{lot_low, lot_high, lot_row, lot_answer}
 use Rattle.chance.proofs.Replies.{valuation_is, first_row, own_row, last_row, kept}
 use Rattle.chance.proofs.LotReplies.{undrawable, drawable}
 use Rattle.chance.proofs.lot.lot_chance.Goals as goal

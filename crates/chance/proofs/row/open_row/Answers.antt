@@ -1,5 +1,4 @@
 -- `chance::open_row` meets its contract: decided states, then the others. Assumes nothing.
-use native.Mathlib.Omega.{arith}
 use Rattle.chance.proofs.InRow.{decided_valued, row_all}
 use Rattle.chance.proofs.row.open_row.Goals as goal
 

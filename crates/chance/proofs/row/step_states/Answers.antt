@@ -3,9 +3,9 @@ use native.Mathlib.Omega.{arith}
 use Rattle.chance.proofs.InRow.{values_most, value_more}
 use Rattle.chance.proofs.row.step_states.Goals as goal
 
-pub value-requires-clause-good_le_scale : goal.value-requires-clause-good_le_scale
-value-requires-clause-good_le_scale g c =
-    values_most c.setting-s.ensures c.loop-b.invariant (omega arith) c.requires.valued c.requires.between c.value_at-marginal.ensures
+pub invariant_of-v : goal.invariant_of-v
+invariant_of-v g c =
+    record { most = values_most c.setting-s.ensures c.loop-b.invariant (omega arith) c.requires.valued c.requires.between c.value_at-marginal.ensures }
 
 pub loop-b-preserved : goal.loop-b-preserved
 loop-b-preserved g c =

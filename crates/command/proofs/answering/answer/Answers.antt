@@ -1,109 +1,94 @@
--- `command::answer` meets its contract, command by command. Assumes nothing.
-use Prim.Native.Nat.{ℕ, ◌≤◌}
-use native.Mathlib.Omega.{arith}
-use mathlib.Core.Path.{◌≡◌, refl, ap, sym, ◌∙◌}
-use mathlib.Core.Option.{Option}
-use mathlib.Core.List.{List}
-use lib.ListN.{take}
-use Rattle.sheetmodel.specs.declared.reply.Done.{Done}
-use Rattle.sheetmodel.specs.declared.reply.Looked.{Looked}
-use Rattle.sheetmodel.specs.declared.reply.Tallied.{Tallied}
-use Rattle.sheetmodel.specs.Offices.{no_shares}
+use Rattle.std.proofs.Common.{◌≡◌, sym, ◌∙◌, arith, get_or}
+use Rattle.std.specs.Prelude.{None}
 use Rattle.sheetmodel.specs.Calls as calls
-use Rattle.command.specs.declared.reading.Command.{Command}
-use Rattle.commandmodel.specs.Command as command
-use Rattle.commandmodel.specs.Printed.{refusal, not_a_command, done_printed, look_printed, tally_printed, performed, answered, answer}
-use Rattle.command.specs.Read.{most_numbers, meaning, plan_numbers}
+use Rattle.sheetmodel.specs.Offices.{no_shares}
 use Rattle.sheetmodel.proofs.Corollaries.{look_words, tally_words}
-use Rattle.command.proofs.Answers.{by_call}
+use Rattle.commandmodel.specs.Command.{forms, by_letter}
+use Rattle.commandmodel.specs.Printed.{done_line, look_line, tally_line, answer}
+use Rattle.command.proofs.Letters.{by_p, by_o, by_i, by_s, by_l, by_c, by_t, no_p, no_o, no_i, no_s, no_l, no_c, no_t, no_other, by_none, called, not_called}
 use Rattle.command.proofs.answering.answer.Goals as goal
+use Rattle.command.proofs.answering.answer.Goals.{in_default-2-via-in-112-default+else-whole_stages, in_default-2-via-in-111+then-this-lt1, in_default-2-via-in-111+else-this-lt1+else-this-lt2, in_default-2-via-in-105+then-this-lt2-2, in_default-2-via-in-105+else-this-lt2-2+else-this-lt3, in_default-2-via-in-115+then-this-lt1-2, in_default-2-via-in-115+else-this-lt1-2+else-this-lt2-3, in_default-2-via-in-108+then-this-lt1-3, in_default-2-via-in-108+else-this-lt1-3+else-this-lt2-4, in_default-2-via-in-99+then-this-lt1-4, in_default-2-via-in-99+else-this-lt1-4+else-this-lt2-5, in_default-2-via-in-116+else-this-lt1-5, in_default-2-via-in_default}
 
-pub slice_bounds-list-end : goal.slice_bounds-list-end
-slice_bounds-list-end c =
-    let r = c.read_command in
-    let few : c.in-Fresh.n ≤ most_numbers = rw (ap plan_numbers c.in-Fresh.is) at r.ensures.1 in
-    omega (arith, r.auto.list)
+pub returns-in_default : goal.returns-in_default
+returns-in_default c =
+    let a = not_called c.args.line.now c.args.sheet.now c.in_default.ensures c.refused.result.items c.refused.ensures in
+    record { reply = a.reply; sheet_after = a.sheet_after }
 
--- the command x was read: its call is the line's
-read_as : (line words list : List ℕ) (r x : Command) → command.command line ≡ meaning r list → r ≡ x
-    → answered (command.command line) words ≡ answered (meaning x list) words
-read_as line words list r x e q = ap (λ (m : Option command.Command). answered m words) (e ∙ ap (λ (y : Command). meaning y list) q)
-
-pub returns-in-Fresh : goal.returns-in-Fresh
-unfolding performed answer
-returns-in-Fresh c =
+pub returns-in-112-default : goal.returns-in-112-default
+returns-in-112-default c =
     let w = c.args.sheet.now in
-    let made = c.fresh_without_shares in
-    let put = c.put_done in
-    by_call c.args.line.now w Done done_printed (calls.fresh (take c.in-Fresh.n c.read_command.new.list) no_shares w)
-    (read_as c.args.line.now w c.read_command.new.list _ _ c.read_command.ensures.0 c.in-Fresh.is)
-    made.result made.ensures.value c.args.out.now put.result put.ensures.value put.new.out put.ensures.out_after put.auto.out made.new.sheet made.ensures.sheet_after
+    let ns = c.as_slice-plan.result.now in
+    let e = by_p c.args.line.now w _ _ ns c.in-Some.ensures c.as_slice-plan.ensures.value c.in-112-default.is-0 (sym c.whole_stages.ensures ∙ c.if-whole_stages.true) in
+    let a = called done_line (calls.fresh ns no_shares w) (answer c.args.line.now w) e c.fresh.result c.fresh.ensures.value c.printed.result.items c.fresh.new.sheet c.printed.ensures c.fresh.ensures.sheet_after in
+    record { reply = a.reply; sheet_after = a.sheet_after }
 
-pub returns-in-Open : goal.returns-in-Open
-unfolding performed answer
-returns-in-Open c =
+pub returns-in-111-len1 : goal.returns-in-111-len1
+returns-in-111-len1 c =
     let w = c.args.sheet.now in
-    let made = c.«open» in
-    let put = c.put_done-in-Open in
-    by_call c.args.line.now w Done done_printed (calls.open_lot c.in-Open.lot w)
-    (read_as c.args.line.now w c.read_command.new.list _ _ c.read_command.ensures.0 c.in-Open.is)
-    made.result made.ensures.value c.args.out.now put.result put.ensures.value put.new.out put.ensures.out_after put.auto.out made.new.sheet made.ensures.sheet_after
+    let ns = c.as_slice-plan.result.now in
+    let e = by_o c.args.line.now w _ _ ns c.in-Some.ensures c.as_slice-plan.ensures.value c.in-111-len1.is-0 (omega arith) in
+    let a = called done_line (calls.open_lot (get_or ns 0 0) w) (answer c.args.line.now w) e c.open.result c.open.ensures.value c.printed-in-111-len1.result.items c.open.new.sheet c.printed-in-111-len1.ensures c.open.ensures.sheet_after in
+    record { reply = a.reply; sheet_after = a.sheet_after }
 
-pub returns-in-Inspect : goal.returns-in-Inspect
-unfolding performed answer
-returns-in-Inspect c =
+pub returns-in-105-len2 : goal.returns-in-105-len2
+returns-in-105-len2 c =
     let w = c.args.sheet.now in
-    let made = c.inspect in
-    let put = c.put_done-in-Inspect in
-    by_call c.args.line.now w Done done_printed (calls.inspect c.in-Inspect.lot c.in-Inspect.class w)
-    (read_as c.args.line.now w c.read_command.new.list _ _ c.read_command.ensures.0 c.in-Inspect.is)
-    made.result made.ensures.value c.args.out.now put.result put.ensures.value put.new.out put.ensures.out_after put.auto.out made.new.sheet made.ensures.sheet_after
+    let ns = c.as_slice-plan.result.now in
+    let e = by_i c.args.line.now w _ _ ns c.in-Some.ensures c.as_slice-plan.ensures.value c.in-105-len2.is-0 (omega arith) in
+    let a = called done_line (calls.inspect (get_or ns 0 0) (get_or ns 1 0) w) (answer c.args.line.now w) e c.inspect.result c.inspect.ensures.value c.printed-in-105-len2.result.items c.inspect.new.sheet c.printed-in-105-len2.ensures c.inspect.ensures.sheet_after in
+    record { reply = a.reply; sheet_after = a.sheet_after }
 
-pub returns-in-Strike : goal.returns-in-Strike
-unfolding performed answer
-returns-in-Strike c =
+pub returns-in-115-len1 : goal.returns-in-115-len1
+returns-in-115-len1 c =
     let w = c.args.sheet.now in
-    let made = c.strike in
-    let put = c.put_done-in-Strike in
-    by_call c.args.line.now w Done done_printed (calls.strike c.in-Strike.lot w)
-    (read_as c.args.line.now w c.read_command.new.list _ _ c.read_command.ensures.0 c.in-Strike.is)
-    made.result made.ensures.value c.args.out.now put.result put.ensures.value put.new.out put.ensures.out_after put.auto.out made.new.sheet made.ensures.sheet_after
+    let ns = c.as_slice-plan.result.now in
+    let e = by_s c.args.line.now w _ _ ns c.in-Some.ensures c.as_slice-plan.ensures.value c.in-115-len1.is-0 (omega arith) in
+    let a = called done_line (calls.strike (get_or ns 0 0) w) (answer c.args.line.now w) e c.strike.result c.strike.ensures.value c.printed-in-115-len1.result.items c.strike.new.sheet c.printed-in-115-len1.ensures c.strike.ensures.sheet_after in
+    record { reply = a.reply; sheet_after = a.sheet_after }
 
-pub returns-in-Look : goal.returns-in-Look
-unfolding performed answer
-returns-in-Look c =
+pub returns-in-108-len1 : goal.returns-in-108-len1
+returns-in-108-len1 c =
     let w = c.args.sheet.now in
-    let made = c.look in
-    let put = c.put_look in
-    by_call c.args.line.now w Looked look_printed (calls.look c.in-Look.lot w)
-    (read_as c.args.line.now w c.read_command.new.list _ _ c.read_command.ensures.0 c.in-Look.is)
-    made.result made.ensures c.args.out.now put.result put.ensures.value put.new.out put.ensures.out_after put.auto.out w (sym (look_words c.in-Look.lot w))
+    let ns = c.as_slice-plan.result.now in
+    let e = by_l c.args.line.now w _ _ ns c.in-Some.ensures c.as_slice-plan.ensures.value c.in-108-len1.is-0 (omega arith) in
+    let a = called look_line (calls.look (get_or ns 0 0) w) (answer c.args.line.now w) e c.look.result c.look.ensures c.printed-in-108-len1.result.items w c.printed-in-108-len1.ensures (sym (look_words (get_or ns 0 0) w)) in
+    record { reply = a.reply; sheet_after = a.sheet_after }
 
-pub returns-in-Close : goal.returns-in-Close
-unfolding performed answer
-returns-in-Close c =
+pub returns-in-99-len1 : goal.returns-in-99-len1
+returns-in-99-len1 c =
     let w = c.args.sheet.now in
-    let made = c.close in
-    let put = c.put_done-in-Close in
-    by_call c.args.line.now w Done done_printed (calls.close c.in-Close.lot w)
-    (read_as c.args.line.now w c.read_command.new.list _ _ c.read_command.ensures.0 c.in-Close.is)
-    made.result made.ensures.value c.args.out.now put.result put.ensures.value put.new.out put.ensures.out_after put.auto.out made.new.sheet made.ensures.sheet_after
+    let ns = c.as_slice-plan.result.now in
+    let e = by_c c.args.line.now w _ _ ns c.in-Some.ensures c.as_slice-plan.ensures.value c.in-99-len1.is-0 (omega arith) in
+    let a = called done_line (calls.close (get_or ns 0 0) w) (answer c.args.line.now w) e c.close.result c.close.ensures.value c.printed-in-99-len1.result.items c.close.new.sheet c.printed-in-99-len1.ensures c.close.ensures.sheet_after in
+    record { reply = a.reply; sheet_after = a.sheet_after }
 
-pub returns-in-Tally : goal.returns-in-Tally
-unfolding performed answer
-returns-in-Tally c =
+pub returns-in-116-empty : goal.returns-in-116-empty
+returns-in-116-empty c =
     let w = c.args.sheet.now in
-    let made = c.tally in
-    let put = c.put_tally in
-    by_call c.args.line.now w Tallied tally_printed (calls.tally w)
-    (read_as c.args.line.now w c.read_command.new.list _ _ c.read_command.ensures.0 c.in-Tally.is)
-    made.result made.ensures c.args.out.now put.result put.ensures.value put.new.out put.ensures.out_after put.auto.out w (sym (tally_words w))
+    let ns = c.as_slice-plan.result.now in
+    let e = by_t c.args.line.now w _ _ ns c.in-Some.ensures c.as_slice-plan.ensures.value c.in-116-empty.is-0 (omega arith) in
+    let a = called tally_line (calls.tally w) (answer c.args.line.now w) e c.tally.result c.tally.ensures c.printed-in-116-empty.result.items w c.printed-in-116-empty.ensures (sym (tally_words w)) in
+    record { reply = a.reply; sheet_after = a.sheet_after }
 
-pub returns-in-Bad : goal.returns-in-Bad
-unfolding answer
-returns-in-Bad c =
-    let w = c.args.sheet.now in
-    let put = c.put_refusal in
-    by_call c.args.line.now w ℕ refusal (record { reply = not_a_command; words = w })
-    (read_as c.args.line.now w c.read_command.new.list _ _ c.read_command.ensures.0 c.in-Bad.is)
-    not_a_command refl c.args.out.now put.result put.ensures.value put.new.out put.ensures.out_after put.auto.out w refl
+pub returns-in_default-2 : goal.returns-in_default-2
+returns-in_default-2 c =
+    let ns = c.as_slice-plan.result.now in
+    let b = c.in-Some.words.letter in
+    let none : by_letter forms b ns ≡ None = elim c.in_default-2.branch [
+      | in_default-2-via-in-112-default+else-whole_stages w ↦ no_p b ns (grind arith) (sym w.whole_stages.ensures ∙ w.if-whole_stages.false)
+      | in_default-2-via-in-111+then-this-lt1 w ↦ no_o b ns (grind arith) (λ q. grind (arith, q))
+      | in_default-2-via-in-111+else-this-lt1+else-this-lt2 w ↦ no_o b ns (grind arith) (λ q. grind (arith, q))
+      | in_default-2-via-in-105+then-this-lt2-2 w ↦ no_i b ns (grind arith) (λ q. grind (arith, q))
+      | in_default-2-via-in-105+else-this-lt2-2+else-this-lt3 w ↦ no_i b ns (grind arith) (λ q. grind (arith, q))
+      | in_default-2-via-in-115+then-this-lt1-2 w ↦ no_s b ns (grind arith) (λ q. grind (arith, q))
+      | in_default-2-via-in-115+else-this-lt1-2+else-this-lt2-3 w ↦ no_s b ns (grind arith) (λ q. grind (arith, q))
+      | in_default-2-via-in-108+then-this-lt1-3 w ↦ no_l b ns (grind arith) (λ q. grind (arith, q))
+      | in_default-2-via-in-108+else-this-lt1-3+else-this-lt2-4 w ↦ no_l b ns (grind arith) (λ q. grind (arith, q))
+      | in_default-2-via-in-99+then-this-lt1-4 w ↦ no_c b ns (grind arith) (λ q. grind (arith, q))
+      | in_default-2-via-in-99+else-this-lt1-4+else-this-lt2-5 w ↦ no_c b ns (grind arith) (λ q. grind (arith, q))
+      | in_default-2-via-in-116+else-this-lt1-5 w ↦ no_t b ns (grind arith) (λ q. grind (arith, q))
+      | in_default-2-via-in_default w ↦ let o = w.in_default-2.is-0 in no_other b ns o.0.0.0.0.0.0.1 o.0.0.0.0.0.1 o.0.0.0.0.1 o.0.0.0.1 o.0.0.1 o.0.1 o.1
+    ] in
+    let a = not_called c.args.line.now c.args.sheet.now (by_none c.args.line.now c.args.sheet.now b _ ns c.in-Some.ensures c.as_slice-plan.ensures.value none)
+    c.refused-in_default-2.result.items c.refused-in_default-2.ensures in
+    record { reply = a.reply; sheet_after = a.sheet_after }

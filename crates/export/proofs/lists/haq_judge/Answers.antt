@@ -2,14 +2,14 @@
 -- are at most 1,000. Assumes nothing.
 use Prim.Native.Nat.{ℕ, ◌≤◌}
 use native.Mathlib.Omega.{arith}
-use mathlib.Core.Path.{◌≡◌, refl, sym, ◌∙◌}
+use mathlib.Core.Path.{◌≡◌, sym, ◌∙◌}
 use mathlib.Core.List.{List}
 use Rattle.plan.specs.declared.ways.StageWay.TheVariants.{Uncurtailed, Semi, Full}
 use Rattle.plan.specs.declared.ways.Way.TheVariants.{Staged, Earliest}
 use Rattle.plan.specs.Counts.{units}
 use Rattle.plan.proofs.Promise.{shape}
 use Rattle.judge.specs.declared.list.Judgement.{Judgement}
-use Rattle.judge.specs.declared.list.Judged.TheVariants.{Stops}
+use Rattle.std.specs.declared.result.Result.TheVariants.{Ok}
 use Rattle.judge.specs.Judge.{judged}
 use Rattle.judge.proofs.Laws.{granted_rightly, stop_laws}
 use Rattle.export.proofs.lists.haq_judge.Goals as goal
@@ -20,7 +20,7 @@ record Short (j : Judgement) : Type 0 where
   pub full : units j.full.counts ≤ 1000
   pub earliest : units j.earliest.counts ≤ 1000
 
-short : (plan list : List ℕ) (j : Judgement) → judged plan list ≡ Stops j → Short j
+short : (plan list : List ℕ) (j : Judgement) → judged plan list ≡ Ok j → Short j
 short plan list j e =
     let g = (granted_rightly plan list j).0 e in
     let s = stop_laws plan list g.0 in
@@ -33,49 +33,30 @@ short plan list j e =
       earliest = omega (arith, thousand, s.within Earliest);
     })
 
-pub returns-in-Refused : goal.returns-in-Refused
-returns-in-Refused c = rw (← c.judge.ensures, c.in-Refused.is) (record { value = refl; out_after = refl })
-
-pub returns-in-Stops : goal.returns-in-Stops
-returns-in-Stops c =
-    rw (
-      ← c.judge.ensures,
-      c.in-Stops.is,
-      c.state_of-in-Stops-3.ensures,
-      c.stop_of-in-Stops-3.ensures,
-      c.state_of-in-Stops-2.ensures,
-      c.stop_of-in-Stops-2.ensures,
-      c.state_of-in-Stops.ensures,
-      c.stop_of-in-Stops.ensures,
-      c.state_of.ensures,
-      c.stop_of.ensures,
-    )
-    (record { value = refl; out_after = refl })
-
 pub stop_of-requires : goal.stop_of-requires
 stop_of-requires c =
-    let here : Short c.in-Stops.j = let call = c.judge in
+    let here : Short c.in-Ok.j = let call = c.judge in
     let a = c.args in
-    short a.plan.now a.list.now _ (sym call.ensures ∙ c.in-Stops.is) in
+    short a.plan.now a.list.now _ (sym call.ensures ∙ c.in-Ok.is) in
     here.uncurtailed
 
-pub stop_of-requires-in-Stops : goal.stop_of-requires-in-Stops
-stop_of-requires-in-Stops c =
-    let here : Short c.in-Stops.j = let call = c.judge in
+pub stop_of-requires-in-Ok : goal.stop_of-requires-in-Ok
+stop_of-requires-in-Ok c =
+    let here : Short c.in-Ok.j = let call = c.judge in
     let a = c.args in
-    short a.plan.now a.list.now _ (sym call.ensures ∙ c.in-Stops.is) in
+    short a.plan.now a.list.now _ (sym call.ensures ∙ c.in-Ok.is) in
     here.semi
 
-pub stop_of-requires-in-Stops-2 : goal.stop_of-requires-in-Stops-2
-stop_of-requires-in-Stops-2 c =
-    let here : Short c.in-Stops.j = let call = c.judge in
+pub stop_of-requires-in-Ok-2 : goal.stop_of-requires-in-Ok-2
+stop_of-requires-in-Ok-2 c =
+    let here : Short c.in-Ok.j = let call = c.judge in
     let a = c.args in
-    short a.plan.now a.list.now _ (sym call.ensures ∙ c.in-Stops.is) in
+    short a.plan.now a.list.now _ (sym call.ensures ∙ c.in-Ok.is) in
     here.full
 
-pub stop_of-requires-in-Stops-3 : goal.stop_of-requires-in-Stops-3
-stop_of-requires-in-Stops-3 c =
-    let here : Short c.in-Stops.j = let call = c.judge in
+pub stop_of-requires-in-Ok-3 : goal.stop_of-requires-in-Ok-3
+stop_of-requires-in-Ok-3 c =
+    let here : Short c.in-Ok.j = let call = c.judge in
     let a = c.args in
-    short a.plan.now a.list.now _ (sym call.ensures ∙ c.in-Stops.is) in
+    short a.plan.now a.list.now _ (sym call.ensures ∙ c.in-Ok.is) in
     here.earliest

@@ -1,30 +1,29 @@
 -- `plan::admitted` meets its contract: the number of words, and then the rules. Assumes nothing.
 use native.Mathlib.Omega.{arith}
-use mathlib.Core.Path.{sym, ◌∙◌}
-use Rattle.plan.proofs.Marked.{at_numbered}
+use mathlib.Core.Path.{sym, ap, ◌∙◌}
+use mathlib.Core.List.{List}
+use lib.ListN.{length}
+use Rattle.plan.specs.declared.stage.Stage.{Stage}
+use Rattle.plan.specs.Plan.{rules}
+use Rattle.plan.proofs.Stages.{stage_count}
 use Rattle.plan.proofs.Whole.{not_whole, no_stage, too_long, by_rules}
 use Rattle.plan.proofs.admission.admitted.Goals as goal
 
-pub returns-then-n-ne0 : goal.returns-then-n-ne0
-returns-then-n-ne0 c = sym (not_whole c.args.plan.now c.if-n-ne0.true)
+pub returns-then-plan-ne0 : goal.returns-then-plan-ne0
+returns-then-plan-ne0 c = sym (not_whole c.args.plan.now c.if-plan-ne0.true)
 
-pub returns-then-n-lt5 : goal.returns-then-n-lt5
-returns-then-n-lt5 c = sym (no_stage c.args.plan.now (omega arith))
+pub returns-then-plan-gt35 : goal.returns-then-plan-gt35
+returns-then-plan-gt35 c = sym (too_long c.args.plan.now c.if-plan-ne0.false (omega arith))
 
-pub returns-then-n-gt35 : goal.returns-then-n-gt35
-returns-then-n-gt35 c = sym (too_long c.args.plan.now (omega arith) (omega arith))
-
--- the first stage is marked, and is not
-pub returns-then-marked : goal.returns-then-marked
-returns-then-marked c =
+pub returns-in-Some : goal.returns-in-Some
+returns-in-Some c =
     let w = c.args.plan.now in
-    c.marked_first.ensures ∙ sym (by_rules w (omega arith) (omega arith) (omega arith))
+    let is = c.in-Some.ensures.stages_are in
+    let some = ap (λ (p : List Stage). length p) is in
+    c.rules.ensures ∙ sym (ap (rules 0) is) ∙ sym (by_rules w c.if-plan-ne0.false (omega (arith, stage_count w)) (omega arith))
 
-pub returns : goal.returns
-returns c =
+pub returns-in-None : goal.returns-in-None
+returns-in-None c =
     let w = c.args.plan.now in
-    c.numbered_rules.ensures
-    ∙ sym (by_rules w (omega arith) (omega arith) (omega arith) ∙ at_numbered 0 w (omega arith) (sym c.marked.ensures ∙ c.if-marked.false))
-
-pub marked_first-requires : goal.marked_first-requires
-marked_first-requires c = (omega arith, sym c.marked.ensures ∙ c.if-marked.true, omega arith)
+    let none = ap (λ (p : List Stage). length p) c.in-None.ensures in
+    sym (no_stage w (omega (arith, stage_count w)))

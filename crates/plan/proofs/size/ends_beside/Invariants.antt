@@ -5,11 +5,11 @@ use lib.ListN.{length}
 use Rattle.plan.specs.Plan.{stages, total, end_below, end_from}
 use Rattle.plan.proofs.size.ends_beside.Given as goal
 
-abbrev pub invariant-loop-rest : goal.invariant-loop-rest
-invariant-loop-rest l =
-    (l.below + total (stages l.rest) ≤ 1000) ×
-    (end_below l.before (stages l.plan) l.y ≡ end_below l.below (stages l.rest) l.y) ×
-    (end_from l.before (stages l.plan) l.y ≡ end_from l.below (stages l.rest) l.y)
+abbrev pub invariant-loop-stage : goal.invariant-loop-stage
+invariant-loop-stage l =
+    (l.below + total (stages l.left) ≤ 1000) ×
+    (end_below l.before (stages l.plan) l.y ≡ end_below l.below (stages l.left) l.y) ×
+    (end_from l.before (stages l.plan) l.y ≡ end_from l.below (stages l.left) l.y)
 
-abbrev pub decreases-loop-rest : goal.decreases-loop-rest
-decreases-loop-rest l = length l.rest
+abbrev pub decreases-loop-stage : goal.decreases-loop-stage
+decreases-loop-stage l = length l.left

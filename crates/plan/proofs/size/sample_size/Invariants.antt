@@ -5,8 +5,8 @@ use lib.ListN.{length}
 use Rattle.plan.specs.Plan.{stages, total}
 use Rattle.plan.proofs.size.sample_size.Given as goal
 
-abbrev pub invariant-loop-rest : goal.invariant-loop-rest
-invariant-loop-rest l = l.units + total (stages l.rest) ≡ total (stages l.plan)
+abbrev pub invariant-loop-stage : goal.invariant-loop-stage
+invariant-loop-stage l = l.units + total (stages l.left) ≡ total (stages l.plan)
 
-abbrev pub decreases-loop-rest : goal.decreases-loop-rest
-decreases-loop-rest l = length l.rest
+abbrev pub decreases-loop-stage : goal.decreases-loop-stage
+decreases-loop-stage l = length l.left

@@ -5,7 +5,6 @@ use Rattle.sheetmodel.specs.Layout.{field, newest}
 use Rattle.sheetmodel.specs.Read.{undecided}
 use Rattle.sheet.specs.Estimating.{evidence_counts}
 use Rattle.std.proofs.lemmas.Result.{err_from_is_err_and}
-use Rattle.sheet.proofs.Sizes.{short_enough}
 use Rattle.sheet.proofs.LocatedFacts.{with_lot}
 use Rattle.sheet.proofs.CallSteps.{long, lot_inside, answer_requires}
 use Rattle.sheet.proofs.EstimateSteps.{estimate_refused, estimate_undecided, estimate_stages, newest_unit, evidence_requires, evidence_few, estimate_granted}
@@ -32,13 +31,13 @@ returns-then-sheet-gt1 c =
 pub field_of-newest-requires : goal.field_of-newest-requires
 field_of-newest-requires c =
     let k = with_lot c.args.lot c.args.sheet.now c.in_ok-found.found (sym c.in_ok-found.ensures) in
-    (omega (arith, lot_inside _ _ _ k), short_enough c.args.sheet.now k.size)
+    omega (arith, lot_inside _ _ _ k)
 
 pub field_of-requires : goal.field_of-requires
 field_of-requires c =
     let k = with_lot c.args.lot c.args.sheet.now c.in_ok-found.found (sym c.in_ok-found.ensures) in
     let decided = sym (ap undecided c.answer_to.ensures) ∙ sym c.goes_on.ensures ∙ c.if-goes_on.false in
-    rw c.field_of-newest.ensures (omega (arith, (newest_unit _ _ _ k decided).inside), short_enough c.args.sheet.now k.size)
+    rw c.field_of-newest.ensures (omega (arith, (newest_unit _ _ _ k decided).inside))
 
 pub evidence-c-requires : goal.evidence-c-requires
 evidence-c-requires c =
@@ -50,7 +49,7 @@ pub units-requires : goal.units-requires
 units-requires c =
     let k = with_lot c.args.lot c.args.sheet.now c.in_ok-found.found (sym c.in_ok-found.ensures) in
     let decided = sym (ap undecided c.answer_to.ensures) ∙ sym c.goes_on.ensures ∙ c.if-goes_on.false in
-    let counted : c.evidence-c.result ≡ evidence_counts (field c.args.sheet.now (newest c.args.sheet.now c.in_ok-found.found.at) 0) c.in_ok-found.found.counts = rw (sym c.field_of-newest.ensures, sym c.field_of.ensures) c.evidence-c.ensures in
+    let counted : c.evidence-c.result ≡ evidence_counts (field c.args.sheet.now (newest c.args.sheet.now c.in_ok-found.found.at) 0) c.in_ok-found.found.chain.counts = rw (sym c.field_of-newest.ensures, sym c.field_of.ensures) c.evidence-c.ensures in
     rw counted (evidence_few _ _ _ k decided)
 
 pub returns-in_err-found : goal.returns-in_err-found
@@ -62,7 +61,7 @@ pub returns : goal.returns
 returns c =
     let k = with_lot c.args.lot c.args.sheet.now c.in_ok-found.found (sym c.in_ok-found.ensures) in
     let decided = sym (ap undecided c.answer_to.ensures) ∙ sym c.goes_on.ensures ∙ c.if-goes_on.false in
-    let counted : c.evidence-c.result ≡ evidence_counts (field c.args.sheet.now (newest c.args.sheet.now c.in_ok-found.found.at) 0) c.in_ok-found.found.counts = rw (sym c.field_of-newest.ensures, sym c.field_of.ensures) c.evidence-c.ensures in
+    let counted : c.evidence-c.result ≡ evidence_counts (field c.args.sheet.now (newest c.args.sheet.now c.in_ok-found.found.at) 0) c.in_ok-found.found.chain.counts = rw (sym c.field_of-newest.ensures, sym c.field_of.ensures) c.evidence-c.ensures in
     rw (estimate_granted _ _ _ k decided c.if-sheet-gt1.false c.evidence-c.result counted)
     (rw (c.from.ensures, c.from-2.ensures, c.from-3.ensures, c.from-4.ensures, c.units.ensures) refl)
 

@@ -51,7 +51,7 @@ returns-in_err-found c =
 pub returns-in_err-grant_record : goal.returns-in_err-grant_record
 returns-in_err-grant_record c =
     let k = with_lot c.args.lot c.args.sheet.now c.in_ok-found.found (sym c.in_ok-found.ensures.value) in
-    let goes_on : undecided (earliest (stages (plan_words c.args.sheet.now)) c.in_ok-found.found.counts) ≡ true = sym (ap undecided c.answer_to.ensures) ∙ sym c.goes_on.ensures ∙ c.if-not-goes_on.false in
+    let goes_on : undecided (earliest (stages (plan_words c.args.sheet.now)) c.in_ok-found.found.chain.counts) ≡ true = sym (ap undecided c.answer_to.ensures) ∙ sym c.goes_on.ensures ∙ c.if-not-goes_on.false in
     let p = err_from_is_err_and c.from_residual-in_err-grant_record.result c.from_residual-in_err-grant_record.ensures.1 in
     rw (p.1, p.2) (rw (inspect_denied _ c.args.class _ _ k c.if-class-gt-HIGHEST_CLASS.false goes_on _ (sym c.in_err-grant_record.ensures))
     (record { value = refl; sheet_after = refl }))
@@ -59,6 +59,6 @@ returns-in_err-grant_record c =
 pub returns : goal.returns
 returns c =
     let k = with_lot c.args.lot c.args.sheet.now c.in_ok-found.found (sym c.in_ok-found.ensures.value) in
-    let goes_on : undecided (earliest (stages (plan_words c.args.sheet.now)) c.in_ok-found.found.counts) ≡ true = sym (ap undecided c.answer_to.ensures) ∙ sym c.goes_on.ensures ∙ c.if-not-goes_on.false in
+    let goes_on : undecided (earliest (stages (plan_words c.args.sheet.now)) c.in_ok-found.found.chain.counts) ≡ true = sym (ap undecided c.answer_to.ensures) ∙ sym c.goes_on.ensures ∙ c.if-not-goes_on.false in
     rw (inspect_granted _ c.args.class _ _ k c.if-class-gt-HIGHEST_CLASS.false goes_on (sym c.in_ok-grant_record.ensures))
     (record { value = refl; sheet_after = rw c.units.ensures at c.add_inspection.ensures })

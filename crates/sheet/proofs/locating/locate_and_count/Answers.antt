@@ -1,7 +1,6 @@
 -- `sheet::locate_and_count` meets its contract: the size, the shares, then the survey. Assumes nothing.
 use mathlib.Core.Path.{sym, ◌∙◌}
-use Rattle.sheet.proofs.Sizes.{long_enough, short_enough}
-use Rattle.sheet.proofs.LocatedFacts.{wrong_size, too_many_shares, corrupt, intact, counted_on}
+use Rattle.sheet.proofs.LocatedFacts.{wrong_size, too_many_shares, by_survey, counted_by_survey}
 use Rattle.sheet.proofs.locating.locate_and_count.Goals as goal
 
 pub returns-then-not-size_ok : goal.returns-then-not-size_ok
@@ -12,12 +11,6 @@ returns-then-not-size_ok c =
       counted_on = tt;
     }
 
-pub shares_fit-requires : goal.shares_fit-requires
-shares_fit-requires c =
-    let size_is = sym c.size_ok.ensures ∙ c.if-not-size_ok.false in
-    let w = c.args.sheet.now in
-    (long_enough w size_is, short_enough w size_is)
-
 pub returns-then-not-shares_fit : goal.returns-then-not-shares_fit
 returns-then-not-shares_fit c =
     let size_is = sym c.size_ok.ensures ∙ c.if-not-size_ok.false in
@@ -27,27 +20,13 @@ returns-then-not-shares_fit c =
       counted_on = tt;
     }
 
-pub survey-requires : goal.survey-requires
-survey-requires c =
-    let size_is = sym c.size_ok.ensures ∙ c.if-not-size_ok.false in
-    let w = c.args.sheet.now in
-    (long_enough w size_is, short_enough w size_is, c.requires)
-
-pub returns-in-Corrupt : goal.returns-in-Corrupt
-returns-in-Corrupt c =
+pub returns-clause-value : goal.returns-clause-value
+returns-clause-value c =
     let size_is = sym c.size_ok.ensures ∙ c.if-not-size_ok.false in
     let shares_are = sym c.shares_fit.ensures ∙ c.if-not-shares_fit.false in
-    let a = c.args in
-    record {
-      value = sym (corrupt a.lot a.sheet.now size_is shares_are (sym c.survey.ensures.value ∙ c.in-Corrupt.is));
-      counted_on = tt;
-    }
+    c.ok_or.ensures.value ∙ by_survey c.args.lot c.args.sheet.now size_is shares_are c.survey.result c.survey.ensures.value
 
-pub returns-in-Intact : goal.returns-in-Intact
-returns-in-Intact c =
-    let size_is = sym c.size_ok.ensures ∙ c.if-not-size_ok.false in
+pub returns-clause-counted_on : goal.returns-clause-counted_on
+returns-clause-counted_on c =
     let shares_are = sym c.shares_fit.ensures ∙ c.if-not-shares_fit.false in
-    let a = c.args in record {
-      value = sym (intact a.lot a.sheet.now c.in-Intact.f size_is shares_are (sym c.survey.ensures.value ∙ c.in-Intact.is));
-      counted_on = counted_on a.lot a.sheet.now c.in-Intact.f _ shares_are (rw c.in-Intact.is at c.survey.ensures.counted);
-    }
+    rw c.ok_or.ensures.value (counted_by_survey c.args.lot c.args.sheet.now shares_are c.survey.result _ c.survey.ensures.counted)

@@ -9,13 +9,13 @@ use Rattle.sheetmodel.specs.Layout.{plan_words}
 use Rattle.sheet.proofs.HeaderSteps.{few_stages}
 use Rattle.sheet.proofs.progress.answer_to.Goals as goal
 
-pub plan_of-requires : goal.plan_of-requires
-plan_of-requires c = (c.requires.0, few_stages c.args.sheet.now c.requires.0 c.requires.1)
+pub invariant_of-plan : goal.invariant_of-plan
+invariant_of-plan c = record { long = c.requires.0; few = few_stages c.args.sheet.now c.requires.0 c.requires.1 }
 
 pub earliest-requires : goal.earliest-requires
 earliest-requires c =
-    (rw c.plan_of.ensures (shape (plan_words c.args.sheet.now) c.requires.1).thousand_units, c.requires.2)
+    (rw c.plan.ensures (shape (plan_words c.args.sheet.now) c.requires.1).thousand_units, c.requires.2)
 
 pub returns : goal.returns
 returns c =
-    c.earliest.ensures ∙ ap (λ (v : List ℕ). earliest (stages v) c.args.c) c.plan_of.ensures
+    c.earliest.ensures ∙ ap (λ (v : List ℕ). earliest (stages v) c.args.c) c.plan.ensures

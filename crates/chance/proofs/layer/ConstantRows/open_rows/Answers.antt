@@ -1,5 +1,5 @@
 -- The answers for `open_rows` with constant weights. Assumes nothing.
-use Prim.Native.Nat.{ℕ, max}
+use Prim.Native.Nat.{ℕ}
 use mathlib.Core.Path.{◌≡◌, refl, subst}
 use native.Mathlib.Omega.{arith}
 use Rattle.chance.specs.Layer.{open_value, SteppedRows}

@@ -7,4 +7,4 @@ use Rattle.chance.proofs.means.DrawnMeans.value.Goals as goal
 pub overflow_add-result : goal.overflow_add-result
 overflow_add-result c =
     let s = c.args.self.setting in
-    omega (arith, mean_at_most c.weights_at.result c.requires.good_le_scale (rounding s.up), c.mean.ensures, s.worth.fits)
+    omega (arith, mean_at_most c.weights_at.result c.args.v.most (rounding s.up), c.mean.ensures, s.worth.fits)
