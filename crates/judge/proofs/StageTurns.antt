@@ -28,7 +28,8 @@ use Rattle.judge.proofs.Stops.{at_none}
 
 -- the end of a run of words that begins with those of a stage, x
 end_with : (i y : ℕ) (x later : List ℕ) → length x ≡ 5
-    → end_from i (stages (x ++ later)) y ≡ cond (ltb (i + get_or x 0 0) y) (end_from (i + get_or x 0 0) (stages later) y) (i + get_or x 0 0)
+    → end_from i (stages (x ++ later)) y ≡ cond (ltb (i + get_or x 0 0) y) (end_from (i + get_or x 0 0)
+    (stages later) y) (i + get_or x 0 0)
 unfolding stages end_from
 end_with i y (n ∷ a1 ∷ r1 ∷ a2 ∷ r2 ∷ []) later h = refl
 end_with i y [] later h = absurd (omega arith)
@@ -88,10 +89,17 @@ module _ (w : List ℕ) (ok : admitted w ≡ true) (xs : List ℕ) where
         go (inl k) = all_read w ok xs i r.within r.went k c r.counted
         go (inr f) =
             let k = units_left w ok xs i r.within r.went in
-            absurd (omega (arith, f (i + 1) (omega arith), end_without i (i + 1) ws n, ((promise w ok).end_from_is (i + 1) (omega arith)).0))
+            absurd (omega (
+              arith,
+              f (i + 1) (omega arith),
+              end_without i (i + 1) ws n,
+              ((promise w ok).end_from_is
+                  (i + 1) (omega arith)).0,
+            ))
 
     -- a stage of so many units, of which m are on the list, and what follows it
-    module _ (x later : List ℕ) (p : ws ≡ x ++ later) (n : length x ≡ 5) (m : ℕ) (m_is : m ≡ min (get_or x 0 0) (length rest)) (k : 0 < length rest) where
+    module _ (x later : List ℕ) (p : ws ≡ x ++ later) (n : length x ≡ 5) (m : ℕ) (m_is : m ≡ min (get_or x 0 0)
+        (length rest)) (k : 0 < length rest) where
       few_left : length rest ≡ length xs - i
       few_left = ap length r.left ∙ length-drop i xs
 
@@ -100,7 +108,8 @@ module _ (w : List ℕ) (ok : admitted w ≡ true) (xs : List ℕ) where
           ap (λ (v : List ℕ). end_from i (stages v) y) p ∙ end_with i y x later n ∙ rw (le-ltb (i + get_or x 0 0) y l)
 
       past : (y : ℕ) → i + get_or x 0 0 < y → end_from i (stages ws) y ≡ end_from (i + get_or x 0 0) (stages later) y
-      past y l = ap (λ (v : List ℕ). end_from i (stages v) y) p ∙ end_with i y x later n ∙ rw (lt-ltb (i + get_or x 0 0) y l)
+      past y l = ap (λ (v : List ℕ). end_from i (stages v) y) p ∙ end_with i y x later n ∙ rw (lt-ltb
+          (i + get_or x 0 0) y l)
 
       ended_after : (j : ℕ) → j ≡ i + m → Ended w xs i ws → Ended w xs j later
       ended_after j e (inl l) = inl (omega arith)
@@ -143,7 +152,8 @@ module _ (w : List ℕ) (ok : admitted w ≡ true) (xs : List ℕ) where
               go (inl t) = absurd (omega (arith, few_left))
               go (inr f) =
                   let end = f (i + 1) (omega arith) ∙ within_stage (i + 1) (omega (arith, few_left)) in
-                  let ends = run_end w (Staged Full) xs ok i j (omega (arith, few_left)) (units_left w ok xs i r.within r.went)
+                  let ends = run_end w (Staged Full) xs ok i j (omega (arith, few_left))
+                  (units_left w ok xs i r.within r.went)
                   (omega (arith, end, few_left)) in
                   (omega (arith, ends.2, (shape w ok).thousand_units), ends.3)
 
@@ -153,18 +163,22 @@ module _ (w : List ℕ) (ok : admitted w ≡ true) (xs : List ℕ) where
             | no l ↦ omega (arith, units_left w ok xs i r.within r.went, (shape w ok).thousand_units)
           ]
 
-          went : Dec (i < j) → answer (Staged Full) (stages w) d ≡ GoOn → (z : ℕ) → z ≤ j → rule_of (Staged Full) w (take z xs) ≡ GoOn
+          went : Dec (i < j) → answer (Staged Full) (stages w) d ≡ GoOn → (z : ℕ) → z ≤ j → rule_of (Staged Full) w
+              (take z xs) ≡ GoOn
           went (no l) g z k = r.went z (omega arith)
-          went (yes l) g z k = stage_steady w (Staged Full) xs ok i r.went j (turn l).1 within z j k (omega arith) (sym same ∙ g)
+          went (yes l) g z k = stage_steady w (Staged Full) xs ok i r.went j (turn l).1 within z j k (omega arith)
+              (sym same ∙ g)
 
           stopped : Dec (i < j) → goes_on (answer (Staged Full) (stages w) d) ≡ false → Between (Staged Full) w xs c j
-          stopped (yes l) g = stage_between w (Staged Full) xs ok i r.went j (turn l).1 l within in_plan c r.counted (ap goes_on (sym same) ∙ g)
+          stopped (yes l) g = stage_between w (Staged Full) xs ok i r.went j (turn l).1 l within in_plan c r.counted
+              (ap goes_on (sym same) ∙ g)
           stopped (no l) g =
               let on : true ≡ false = sym (ap goes_on (same ∙ r.went j (omega arith))) ∙ g in
               let z : ◌≡◌ {A = ℕ} 0 1 = cc in
               absurd (omega arith)
 
-          reached : ((z : ℕ) → z ≤ j → rule_of (Staged Full) w (take z xs) ≡ GoOn) → Reached w xs j d (drop m rest) later
+          reached : ((z : ℕ) → z ≤ j → rule_of (Staged Full) w (take z xs) ≡ GoOn) → Reached w xs j d
+              (drop m rest) later
           reached t = record {
             within = within;
             counted = counted;
@@ -174,8 +188,10 @@ module _ (w : List ℕ) (ok : admitted w ≡ true) (xs : List ℕ) where
           }
 
 -- the stage with the words x, of which the list has the classes `part`
-pub stage_read : {w xs rest ws part : List ℕ} {i m : ℕ} {c d : Counts} (x later : List ℕ) → admitted w ≡ true → Reached w xs i c rest ws → ws ≡ x ++ later
-    → length x ≡ 5 → m ≡ min (get_or x 0 0) (length rest) → eqb (length rest) 0 ≡ false → part ≡ take m rest → d ≡ counts_after c part
+pub stage_read : {w xs rest ws part : List ℕ} {i m : ℕ} {c d : Counts} (x later : List ℕ) → admitted w ≡ true
+    → Reached w xs i c rest ws → ws ≡ x ++ later
+    → length x ≡ 5 → m ≡ min (get_or x 0 0) (length rest) → eqb (length rest) 0 ≡ false → part ≡ take m rest
+    → d ≡ counts_after c part
     → StageRead w xs i m c rest later d
 stage_read {w} {xs} {rest} {ws} {part} {i} {m} {c} {d} x later ok r p n m_is k front q =
     let some = eqb-false (length rest) 0 k in

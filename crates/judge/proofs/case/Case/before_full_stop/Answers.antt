@@ -12,14 +12,26 @@ use Rattle.judge.proofs.case.Case.before_full_stop.Goals as goal
 pub loop-stage-init : goal.loop-stage-init
 loop-stage-init c =
     let k = c.args.self.now in
-    rw (c.into_iter-stage-iterator.ensures.into_iter_gives, c.chunks_exact-stage-items.ensures.rest, c.chunks_exact-stage-items.ensures.size, c.none-c.ensures)
-    (record { can_next = omega arith; is_finite = tt; size = refl; reached = none_read k.plan.now k.admitted k.list.now })
+    rw (
+      c.into_iter-stage-iterator.ensures.into_iter_gives,
+      c.chunks_exact-stage-items.ensures.rest,
+      c.chunks_exact-stage-items.ensures.size,
+      c.none-c.ensures,
+    )
+    (record {
+      can_next = omega arith;
+      is_finite = tt;
+      size = refl;
+      reached = none_read k.plan.now k.admitted
+          k.list.now;
+    })
 
 pub count_run-after-requires : goal.count_run-after-requires
 count_run-after-requires c =
     let s = c.in-Some.ensures.steps.1 in
     let i = c.loop-stage.invariant in
-    let t = stage_read c.in-Some.stage.now (chunks_exact_rest c.next.new.self) c.args.self.now.admitted i.reached s.0 (s.1 ∙ i.size) c.min.ensures
+    let t = stage_read c.in-Some.stage.now (chunks_exact_rest c.next.new.self) c.args.self.now.admitted i.reached s.0
+    (s.1 ∙ i.size) c.min.ensures
     (sym c.is_empty.ensures ∙ c.if-is_empty.false) c.split_at.ensures.front refl in
     omega (arith, t.few, c.split_at.ensures.front_len)
 
@@ -27,7 +39,8 @@ pub answer-requires : goal.answer-requires
 answer-requires c =
     let s = c.in-Some.ensures.steps.1 in
     let i = c.loop-stage.invariant in
-    let t = stage_read c.in-Some.stage.now (chunks_exact_rest c.next.new.self) c.args.self.now.admitted i.reached s.0 (s.1 ∙ i.size) c.min.ensures
+    let t = stage_read c.in-Some.stage.now (chunks_exact_rest c.next.new.self) c.args.self.now.admitted i.reached s.0
+    (s.1 ∙ i.size) c.min.ensures
     (sym c.is_empty.ensures ∙ c.if-is_empty.false) c.split_at.ensures.front c.count_run-after.ensures in
     ((shape c.args.self.now.plan.now c.args.self.now.admitted).thousand_units, omega (arith, t.few, t.read))
 
@@ -35,7 +48,8 @@ pub units-requires : goal.units-requires
 units-requires c =
     let s = c.in-Some.ensures.steps.1 in
     let i = c.loop-stage.invariant in
-    let t = stage_read c.in-Some.stage.now (chunks_exact_rest c.next.new.self) c.args.self.now.admitted i.reached s.0 (s.1 ∙ i.size) c.min.ensures
+    let t = stage_read c.in-Some.stage.now (chunks_exact_rest c.next.new.self) c.args.self.now.admitted i.reached s.0
+    (s.1 ∙ i.size) c.min.ensures
     (sym c.is_empty.ensures ∙ c.if-is_empty.false) c.split_at.ensures.front c.count_run-after.ensures in
     omega (arith, t.few, t.read)
 
@@ -43,7 +57,8 @@ pub before_stop-requires : goal.before_stop-requires
 before_stop-requires c =
     let s = c.in-Some.ensures.steps.1 in
     let i = c.loop-stage.invariant in
-    let t = stage_read c.in-Some.stage.now (chunks_exact_rest c.next.new.self) c.args.self.now.admitted i.reached s.0 (s.1 ∙ i.size) c.min.ensures
+    let t = stage_read c.in-Some.stage.now (chunks_exact_rest c.next.new.self) c.args.self.now.admitted i.reached s.0
+    (s.1 ∙ i.size) c.min.ensures
     (sym c.is_empty.ensures ∙ c.if-is_empty.false) c.split_at.ensures.front c.count_run-after.ensures in
     rw c.units.ensures (t.stopped (ap goes_on (sym c.answer.ensures) ∙ sym c.goes_on.ensures ∙ c.if-not-goes_on.true))
 
@@ -51,7 +66,8 @@ pub loop-stage-preserved : goal.loop-stage-preserved
 loop-stage-preserved c =
     let s = c.in-Some.ensures.steps.1 in
     let i = c.loop-stage.invariant in
-    let t = stage_read c.in-Some.stage.now (chunks_exact_rest c.next.new.self) c.args.self.now.admitted i.reached s.0 (s.1 ∙ i.size) c.min.ensures
+    let t = stage_read c.in-Some.stage.now (chunks_exact_rest c.next.new.self) c.args.self.now.admitted i.reached s.0
+    (s.1 ∙ i.size) c.min.ensures
     (sym c.is_empty.ensures ∙ c.if-is_empty.false) c.split_at.ensures.front c.count_run-after.ensures in
     let on = is_on _ (sym c.goes_on.ensures ∙ c.if-not-goes_on.false) in
     record {

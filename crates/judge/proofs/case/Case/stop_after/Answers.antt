@@ -23,7 +23,8 @@ record Next (w xs : List ℕ) (way : Way) (d : Counts) : Type 0 where
   is_stop : record { answer = answer way (stages w) d; counts = d } ≡ stop_of way w xs
   few : units d ≤ 1000
 
-next : {w xs : List ℕ} {way : Way} {c d : Counts} (i : ℕ) → admitted w ≡ true → BeforeStop way w xs c → i ≡ units c → i < length xs
+next : {w xs : List ℕ} {way : Way} {c d : Counts} (i : ℕ) → admitted w ≡ true → BeforeStop way w xs c → i ≡ units c
+    → i < length xs
     → d ≡ add_units (get_or xs i 0) 1 c → Next w xs way d
 next {w} {xs} {way} {c} {d} i ok b e l f =
     let s = stop_next w way xs ok c b (omega arith) d (f ∙ ap (λ (j : ℕ). add_units (get_or xs j 0) 1 c) e) in
@@ -32,14 +33,21 @@ next {w} {xs} {way} {c} {d} i ok b e l f =
 pub returns-then-self-i : goal.returns-then-self-i
 returns-then-self-i c =
     let k = c.args.self.now in
-    c.no_stop.ensures ∙ no_more k.plan.now c.args.way k.list.now k.admitted c.args.before c.requires (omega (arith, c.units-i.ensures, c.if-self-i.true))
+    c.no_stop.ensures ∙ no_more k.plan.now c.args.way k.list.now k.admitted c.args.before c.requires (omega (
+      arith,
+      c.units-i.ensures,
+      c.if-self-i.true,
+    ))
 
 pub answer-requires : goal.answer-requires
 answer-requires c =
-    let k = c.args.self.now in
-    ((shape k.plan.now k.admitted).thousand_units, (next c.units-i.result k.admitted c.requires c.units-i.ensures c.if-self-i.false c.with-c.ensures).few)
+    let k = c.args.self.now in (
+      (shape k.plan.now k.admitted).thousand_units,
+      (next c.units-i.result k.admitted c.requires c.units-i.ensures c.if-self-i.false c.with-c.ensures).few,
+    )
 
 pub returns : goal.returns
 returns c =
     let k = c.args.self.now in
-    rw c.answer.ensures (next c.units-i.result k.admitted c.requires c.units-i.ensures c.if-self-i.false c.with-c.ensures).is_stop
+    rw c.answer.ensures (next c.units-i.result k.admitted c.requires c.units-i.ensures c.if-self-i.false
+    c.with-c.ensures).is_stop

@@ -23,7 +23,8 @@ record ToEnd (w : List ℕ) (full : Stop) (from end : ℕ) : Type 0 where
   after : from ≤ end
   few : end ≤ 1000
 
-to_end : {w : List ℕ} {full : Stop} {from end : ℕ} (xs : List ℕ) → admitted w ≡ true → full ≡ stop_of (Staged Full) w xs → goes_on full.answer ≡ false
+to_end : {w : List ℕ} {full : Stop} {from end : ℕ} (xs : List ℕ) → admitted w ≡ true → full ≡ stop_of
+    (Staged Full) w xs → goes_on full.answer ≡ false
     → from ≡ units full.counts → end ≡ end_from 0 (stages w) from → ToEnd w full from end
 to_end {w} {full} {from} {end} xs ok is off f e =
     let here : end ≡ end_from 0 (stages w) (units full.counts) = e ∙ ap (end_from 0 (stages w)) f in
@@ -31,18 +32,28 @@ to_end {w} {full} {from} {end} xs ok is off f e =
       off = off;
       is_end = here;
       after = omega (arith, end_after w ok xs full is off end here);
-      few = omega (arith, (promise w ok).end_within (units full.counts) (in_plan w ok xs full is), here, (shape w ok).thousand_units);
+      few = omega (
+        arith,
+        (promise w ok).end_within (units full.counts) (in_plan w ok xs full is),
+        here,
+        (shape w ok).thousand_units,
+      );
     }
 
 pub returns-then-goes_on : goal.returns-then-goes_on
 returns-then-goes_on c =
     let k = c.args.self.now in
-    c.no_stop.ensures ∙ uncurtailed_none k.plan.now k.admitted k.list.now c.args.full c.requires (sym c.goes_on.ensures ∙ c.if-goes_on.true)
+    c.no_stop.ensures ∙ uncurtailed_none k.plan.now k.admitted k.list.now c.args.full c.requires
+    (sym c.goes_on.ensures ∙ c.if-goes_on.true)
 
 pub units-from-requires : goal.units-from-requires
 units-from-requires c =
     let k = c.args.self.now in
-    omega (arith, in_plan k.plan.now k.admitted k.list.now c.args.full c.requires, (shape k.plan.now k.admitted).thousand_units)
+    omega (
+      arith,
+      in_plan k.plan.now k.admitted k.list.now c.args.full c.requires,
+      (shape k.plan.now k.admitted).thousand_units,
+    )
 
 pub end_from-end-requires : goal.end_from-end-requires
 end_from-end-requires c = omega (arith, (shape c.args.self.now.plan.now c.args.self.now.admitted).thousand_units)
@@ -50,31 +61,42 @@ end_from-end-requires c = omega (arith, (shape c.args.self.now.plan.now c.args.s
 pub returns-then-self-end : goal.returns-then-self-end
 returns-then-self-end c =
     let k = c.args.self.now in
-    let t = to_end k.list.now k.admitted c.requires (sym c.goes_on.ensures ∙ c.if-goes_on.false) c.units-from.ensures c.end_from-end.ensures in
+    let t = to_end k.list.now k.admitted c.requires (sym c.goes_on.ensures
+    ∙ c.if-goes_on.false) c.units-from.ensures c.end_from-end.ensures in
     c.no_stop-then-self-end.ensures
-    ∙ uncurtailed_short k.plan.now k.admitted k.list.now c.args.full c.requires t.off c.end_from-end.result t.is_end c.if-self-end.true
+    ∙ uncurtailed_short k.plan.now k.admitted k.list.now c.args.full c.requires t.off c.end_from-end.result t.is_end
+    c.if-self-end.true
 
 pub slice_bounds-count_run-count : goal.slice_bounds-count_run-count
 slice_bounds-count_run-count c =
     let k = c.args.self.now in
-    (to_end k.list.now k.admitted c.requires (sym c.goes_on.ensures ∙ c.if-goes_on.false) c.units-from.ensures c.end_from-end.ensures).after
+    (to_end k.list.now k.admitted c.requires (sym c.goes_on.ensures
+    ∙ c.if-goes_on.false) c.units-from.ensures c.end_from-end.ensures).after
 
 pub slice_bounds-count_run-start : goal.slice_bounds-count_run-start
 slice_bounds-count_run-start c =
     let k = c.args.self.now in
-    let t = to_end k.list.now k.admitted c.requires (sym c.goes_on.ensures ∙ c.if-goes_on.false) c.units-from.ensures c.end_from-end.ensures in
+    let t = to_end k.list.now k.admitted c.requires (sym c.goes_on.ensures
+    ∙ c.if-goes_on.false) c.units-from.ensures c.end_from-end.ensures in
     omega (arith, t.after)
 
 pub count_run-c-requires : goal.count_run-c-requires
 count_run-c-requires c =
     let k = c.args.self.now in
-    let t = to_end k.list.now k.admitted c.requires (sym c.goes_on.ensures ∙ c.if-goes_on.false) c.units-from.ensures c.end_from-end.ensures in
-    omega (arith, run_length k.list.now c.units-from.result c.end_from-end.result t.after c.if-self-end.false, t.few, t.after)
+    let t = to_end k.list.now k.admitted c.requires (sym c.goes_on.ensures
+    ∙ c.if-goes_on.false) c.units-from.ensures c.end_from-end.ensures in
+    omega (
+      arith,
+      run_length k.list.now c.units-from.result c.end_from-end.result t.after c.if-self-end.false,
+      t.few,
+      t.after,
+    )
 
 pub answer-requires : goal.answer-requires
 answer-requires c =
     let k = c.args.self.now in
-    let t = to_end k.list.now k.admitted c.requires (sym c.goes_on.ensures ∙ c.if-goes_on.false) c.units-from.ensures c.end_from-end.ensures in
+    let t = to_end k.list.now k.admitted c.requires (sym c.goes_on.ensures
+    ∙ c.if-goes_on.false) c.units-from.ensures c.end_from-end.ensures in
     let rest = run k.list.now c.units-from.result c.end_from-end.result in
     let n = ap units c.count_run-c.ensures ∙ (counting.after_more c.args.full.counts rest).units in
     let rest_length = run_length k.list.now c.units-from.result c.end_from-end.result t.after c.if-self-end.false in
@@ -83,7 +105,10 @@ answer-requires c =
 pub returns : goal.returns
 returns c =
     let k = c.args.self.now in
-    let t = to_end k.list.now k.admitted c.requires (sym c.goes_on.ensures ∙ c.if-goes_on.false) c.units-from.ensures c.end_from-end.ensures in
+    let t = to_end k.list.now k.admitted c.requires (sym c.goes_on.ensures
+    ∙ c.if-goes_on.false) c.units-from.ensures c.end_from-end.ensures in
     rw c.answer.ensures
-    (uncurtailed_end k.plan.now k.admitted k.list.now c.args.full c.requires t.off c.end_from-end.result t.is_end c.if-self-end.false c.count_run-c.result
-    (c.count_run-c.ensures ∙ ap (λ (n : ℕ). counts_after c.args.full.counts (run k.list.now n c.end_from-end.result)) c.units-from.ensures))
+    (uncurtailed_end k.plan.now k.admitted k.list.now c.args.full c.requires t.off c.end_from-end.result t.is_end
+    c.if-self-end.false c.count_run-c.result
+    (c.count_run-c.ensures ∙ ap (λ (n : ℕ). counts_after c.args.full.counts
+    (run k.list.now n c.end_from-end.result)) c.units-from.ensures))
