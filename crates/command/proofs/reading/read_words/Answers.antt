@@ -3,7 +3,6 @@ use Rattle.std.proofs.lemmas.Grind.{common_steps}
 use Rattle.commandmodel.specs.Command.{numbers}
 use Rattle.command.proofs.Numbers.{left, first_field, bad_number, one_more, no_room, all_read, too_long, no_letter, one_letter}
 use Rattle.command.proofs.reading.read_words.Goals as goal
-use Rattle.command.proofs.reading.read_words.Goals.{in_default-via-then-branch-lt1, in_default-via-else-branch-lt1+else-this-lt2}
 
 pub returns-then-line-gt255 : goal.returns-then-line-gt255
 returns-then-line-gt255 c = too_long c.args.line.now c.if-line-gt255.true
@@ -14,8 +13,8 @@ returns-in_default c =
     let t = c.next.new.self in
     first_field _ c.split-fields.result t x c.in_ok-next.ensures.steps (λ f a r u k. search (rules, tests)) c.args.line.now c.split-fields.ensures.rest (omega arith)
     ∙ no_letter x.now (numbers (left t)) (elim c.in_default.branch [
-      | in_default-via-then-branch-lt1 w ↦ λ q. grind (arith, q)
-      | in_default-via-else-branch-lt1+else-this-lt2 w ↦ λ q. grind (arith, q)
+      | goal.in_default-via-then-branch-lt1 w ↦ λ q. grind (arith, q)
+      | goal.in_default-via-else-branch-lt1+else-this-lt2 w ↦ λ q. grind (arith, q)
     ])
 
 pub loop-field-init : goal.loop-field-init

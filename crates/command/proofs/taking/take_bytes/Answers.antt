@@ -5,7 +5,6 @@ use borrow.Author.Rules.{part_to_end}
 use Rattle.commandmodel.specs.Blocks.{taken}
 use Rattle.command.proofs.Pieces.{begins, stopped, no_room, no_byte, taken_some, no_end, cut_line, inside_line, kept_rest, answered_line}
 use Rattle.command.proofs.taking.take_bytes.Goals as goal
-use Rattle.command.proofs.taking.take_bytes.Goals.{then-loop-replies-test+else-remaining_capacity-ge-LONGEST_REPLY, else-loop-replies-test}
 
 pub loop-replies-init : goal.loop-replies-init
 loop-replies-init g c = let a = c.args in begins g.row.N a.block.now a.line.now.items a.sheet.now a.replies.now.items
@@ -38,8 +37,8 @@ returns g c =
     let rest = l.rest.now in
     let room = g.row.N - length l.replies.items in
     let none : taken room l.line.items l.sheet rest ≡ 0 = elim c.loop-replies-test.branch [
-      | then-loop-replies-test+else-remaining_capacity-ge-LONGEST_REPLY w ↦ no_room room l.line.items l.sheet rest (omega arith)
-      | else-loop-replies-test w ↦
+      | goal.then-loop-replies-test+else-remaining_capacity-ge-LONGEST_REPLY w ↦ no_room room l.line.items l.sheet rest (omega arith)
+      | goal.else-loop-replies-test w ↦
           let empty : rest ≡ [] = nil_from_length rest (grind arith) in
           ap (taken room l.line.items l.sheet) empty ∙ no_byte room l.line.items l.sheet
     ] in
