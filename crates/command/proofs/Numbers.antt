@@ -1,5 +1,6 @@
 -- A line's fields, cut off one after another, and the command that they are.
-use Rattle.std.proofs.Common.{◌≡◌, ◌∙◌, refl, ap, sym, subst, ℕ, ◌<◌, ◌≤◌, Bool, true, false, cond, eqb, List, [], ◌∷◌, ◌++◌, length, get_or, append_assoc, append-nil, length-append, arith}
+use Rattle.std.proofs.Common.{◌≡◌, ◌∙◌, refl, ap, sym, subst, ℕ, ◌<◌, ◌≤◌, Bool, true, false, cond, eqb, List, [], ◌∷◌}
+use Rattle.std.proofs.Common.{◌++◌, length, get_or, append_assoc, append-nil, length-append, arith}
 use Rattle.std.specs.Prelude.{Option, None, Some}
 use Rattle.std.specs.Bool.{MatchBool}
 use Rattle.std.specs.Borrow.{Bor}
@@ -26,10 +27,13 @@ left s = cond (split_done s) [] (slice_split is_space (split_rest s))
 part : (p : ℕ → Bool) (xs x rest : List ℕ) (done : Bool) → MatchBool done (xs ≡ x) ((y : ℕ) × (xs ≡ x ++ (y ∷ rest)))
     → IsFirstMatchOrLen p xs (length x) → slice_split p xs ≡ x ∷ cond done [] (slice_split p rest)
 part p xs x rest true e h =
-    ap (slice_split p) e ∙ slice_split_none p x (λ k d l. subst (λ ys. p (get_or ys k d) ≡ false) e (h.0 k d (omega arith) l))
+    ap (slice_split p) e ∙ slice_split_none p x
+    (λ k d l. subst (λ ys. p (get_or ys k d) ≡ false) e (h.0 k d (omega arith) l))
 part p xs x rest false e h =
-    let front : All (λ z. p z ≡ false) x = λ k d l. let a = h.0 k d (omega arith) l in let b = e.1 in grind (arith, common_steps) in
-    let hit : p e.0 ≡ true = let b = e.1 in let a = h.1 (grind (arith, common_steps)) e.0 in grind (arith, common_steps) in
+    let front : All (λ z. p z ≡ false) x = λ k d l. let a = h.0 k d (omega arith) l in let b = e.1
+    in grind (arith, common_steps) in
+    let hit : p e.0 ≡ true = let b = e.1 in let a = h.1 (grind (arith, common_steps)) e.0
+    in grind (arith, common_steps) in
     ap (slice_split p) e.1 ∙ slice_split_at p x e.0 rest front hit
 
 no_field : {F : Type 0} (s : Split ℕ F) → split_done s ≡ true → left s ≡ []
@@ -65,19 +69,23 @@ abbrev pub Reads : {F : Type 0} → List ℕ → ℕ → List ℕ → Split ℕ 
 Reads line b ns s = command line ≡ of_letter (b ∷ []) (onto ns (numbers (left s)))
 
 -- a call of `next` that takes the state s to t and gives the field x
-module _ {F : Type 0} (g : Mut F (Bor ℕ × Unit {0}) Bool) (s t : Split ℕ F) (x : Bor (List ℕ)) (step : split_steps g s (Some x) t)
-    (by_space : (f : F) (a : Bor ℕ × Unit {0}) (r : Bool) (u : F) → Called g f a r u → r ≡ is_space a.0.now) (line : List ℕ) where
+module _ {F : Type 0} (g : Mut F (Bor ℕ × Unit {0}) Bool) (s t : Split ℕ F) (x : Bor (List ℕ))
+    (step : split_steps g s (Some x) t)
+    (by_space : (f : F) (a : Bor ℕ × Unit {0}) (r : Bool) (u : F) → Called g f a r u → r ≡ is_space a.0.now)
+    (line : List ℕ) where
   cut : left s ≡ x.now ∷ left t
   cut =
       let first = (step.2 is_space (answers_always g (λ a r. r ≡ is_space a.0.now) (split_callee s) by_space)).1 in
-      ap (λ d. cond d [] (slice_split is_space (split_rest s))) step.0 ∙ part is_space (split_rest s) x.now (split_rest t) (split_done t) step.1 first
+      ap (λ d. cond d [] (slice_split is_space (split_rest s))) step.0
+      ∙ part is_space (split_rest s) x.now (split_rest t) (split_done t) step.1 first
 
   -- the first field
   pub first_field : split_rest s ≡ line → length line ≤ 255 → command line ≡ of_letter x.now (numbers (left t))
   unfolding command
   first_field e h =
       let fields : slice_split is_space line ≡ x.now ∷ left t =
-      sym (ap (slice_split is_space) e) ∙ sym (ap (λ d. cond d [] (slice_split is_space (split_rest s))) step.0) ∙ cut in
+      sym (ap (slice_split is_space) e) ∙ sym (ap (λ d. cond d [] (slice_split is_space (split_rest s))) step.0)
+      ∙ cut in
       rw (le-leb (length line) 255 h, fields)
 
   module _ (b : ℕ) (ns : List ℕ) (so_far : Reads line b ns s) where
@@ -90,7 +98,8 @@ module _ {F : Type 0} (g : Mut F (Bor ℕ × Unit {0}) Bool) (s t : Split ℕ F)
     more n e = so_far ∙ rw (cut, e) (ap (of_letter (b ∷ [])) (onto_more ns n (numbers (left t))))
 
     pub one_more : (n : ℕ) → number x.now ≡ Some n → (ns' : List ℕ) → ns' ≡ ns ++ (n ∷ []) → Reads line b ns' t
-    one_more n e ns' pushed = more n e ∙ ap (λ (ms : List ℕ). of_letter (b ∷ []) (onto ms (numbers (left t)))) (sym pushed)
+    one_more n e ns' pushed = more n e
+        ∙ ap (λ (ms : List ℕ). of_letter (b ∷ []) (onto ms (numbers (left t)))) (sym pushed)
 
     pub no_room : (n : ℕ) → number x.now ≡ Some n → length ns ≡ 35 → command line ≡ None
     no_room n e full = more n e ∙ go (numbers (left t))
@@ -99,7 +108,8 @@ module _ {F : Type 0} (g : Mut F (Bor ℕ × Unit {0}) Bool) (s t : Split ℕ F)
         go None = refl
         go (Some ms) = too_many b ((ns ++ (n ∷ [])) ++ ms) (simp length-append (omega arith))
 
-pub all_read : {F : Type 0} (s : Split ℕ F) (line : List ℕ) (b : ℕ) (ns : List ℕ) → Reads line b ns s → split_done s ≡ true → command line ≡ by_letter forms b ns
+pub all_read : {F : Type 0} (s : Split ℕ F) (line : List ℕ) (b : ℕ) (ns : List ℕ) → Reads line b ns s
+    → split_done s ≡ true → command line ≡ by_letter forms b ns
 unfolding numbers
 all_read s line b ns so_far e = so_far ∙ rw (no_field s e) (ap (by_letter forms b) (append-nil ns))
 
@@ -120,7 +130,8 @@ none_read None = refl
 none_read (Some ns) = refl
 
 -- no number is read yet
-pub one_letter : {F : Type 0} (t : Split ℕ F) (line x : List ℕ) → length x ≡ 1 → command line ≡ of_letter x (numbers (left t)) → Reads line (get_or x 0 0) [] t
+pub one_letter : {F : Type 0} (t : Split ℕ F) (line x : List ℕ) → length x ≡ 1
+    → command line ≡ of_letter x (numbers (left t)) → Reads line (get_or x 0 0) [] t
 one_letter t line (b ∷ []) h e = e ∙ ap (of_letter (b ∷ [])) (none_read (numbers (left t)))
 one_letter t line [] h e = absurd (omega arith)
 one_letter t line (b ∷ c ∷ bs) h e = absurd (omega arith)
