@@ -2,8 +2,6 @@
 // sheet.
 #![tactic(auto)]
 
-ghost use Rattle.std.specs.Prelude.{◌≡◌};
-
 use arrayvec::ArrayVec;
 use command::Line;
 use std::io::{self, Read};
