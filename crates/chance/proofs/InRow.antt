@@ -17,7 +17,7 @@ use Rattle.chance.specs.declared.constant.Constant.{Constant}
 use Rattle.chance.specs.declared.row.Undecided.{Undecided}
 use Rattle.chance.specs.Chance.{scale}
 use Rattle.chance.specs.Layer.{word, state_value, Values, Valued, Between, Filled, further, Further, FurtherTo, Decided, SteppedRow}
-use Rattle.chance.specs.Constant.{constant_value, Legible}
+use Rattle.chance.specs.Constant.{constant_value, Legible, SteppedState}
 use Rattle.chance.proofs.States.{constant_is, inside, next_row, word_is, word_at_most, word_same, further_is, further_same}
 
 -- a word that was set, and the others
@@ -147,14 +147,13 @@ module _ (t : Constant) {y g from to bad b : ℕ} {before layer : List ℕ} (val
   }
 
   -- one state more
-  pub state_more : from ≤ k → {after : List ℕ} {marginal : ℕ} → marginal ≡ get_or layer (g * t.setting.r2 + t.setting.r2 + k) 0
-      → after ≡ set layer (g * t.setting.r2 + k) (constant_value t.setting (get_or layer (g * t.setting.r2 + k) 0) (get_or layer (g * t.setting.r2 + t.setting.r2 + k) 0) bad)
+  pub state_more : from ≤ k → {after : List ℕ} {marginal : ℕ} → SteppedState t.setting (g * t.setting.r2 + k) (g * t.setting.r2 + t.setting.r2 + k) bad layer after marginal
       → FurtherTo t.setting y g from to before after marginal k
-  state_more l {after} {marginal} e q =
+  state_more l {after} {marginal} stepped =
       let word_on = sym on ∙ read.marginal in
       let value = constant_is t.setting y g k _ _ bad t.same ∙ further_is t.setting before y g k read.good word_on read.bad in
-      subst (λ (x : List ℕ). FurtherTo t.setting y g from to before x marginal k) (sym q)
-      (further_more p k (constant_value t.setting (get_or layer (g * t.setting.r2 + k) 0) (get_or layer (g * t.setting.r2 + t.setting.r2 + k) 0) bad) marginal one l read.place value (e ∙ word_on))
+      subst (λ (x : List ℕ). FurtherTo t.setting y g from to before x marginal k) (sym stepped.written)
+      (further_more p k (constant_value t.setting (get_or layer (g * t.setting.r2 + k) 0) (get_or layer (g * t.setting.r2 + t.setting.r2 + k) 0) bad) marginal one l read.place value (stepped.read ∙ word_on))
 
 -- the states that four do not go into, which come first, and those that are left then
 pub odd_some : (from b : ℕ) → from ≤ b → (b - from) % 4 ≢ 0 → from < b

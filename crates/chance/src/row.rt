@@ -1,8 +1,8 @@
 // A row of a layer, the states of g nongood units, in place: from the values at y + 1 units to those at y. The
 // state of g nongood and b bad units stands at g * r2 + b, for g below r1 and b below r2.
-ghost use Rattle.std.specs.Prelude.{◌≡◌, ◌+◌, ◌-◌, ◌*◌, ◌%◌, ◌≤◌, ◌<◌, length, get_or, set};
+ghost use Rattle.std.specs.Prelude.{◌≡◌, ◌+◌, ◌-◌, ◌*◌, ◌%◌, ◌≤◌, ◌<◌, length};
 ghost use Rattle.chance.specs.Layer.{word, Valued, Between, Weighs, Filled, Further, FurtherTo, Decided, SteppedRow};
-ghost use Rattle.chance.specs.Constant.{constant_value, Legible};
+ghost use Rattle.chance.specs.Constant.{Legible, SteppedState};
 
 use crate::constant::Constant;
 use crate::means::Means;
@@ -66,8 +66,7 @@ fn step_states<M: Means>(layer: &mut [u64], means: M, y: usize, g: usize, from: 
 // One state, with constant weights. What is read in the next row is given back.
 fn state(layer: &mut [u64], t: Constant, row: usize, next: usize, b: usize, bad: u64) -> u64
     requires { Legible layer.old (row + b) (next + b) bad }
-    ensures value { result ≡ get_or layer.old (next + b) 0 }
-    ensures layer_after { layer.new ≡ set layer.old (row + b) (constant_value t.setting (get_or layer.old (row + b) 0) (get_or layer.old (next + b) 0) bad) }
+    ensures { SteppedState t.setting (row + b) (next + b) bad layer.old layer.new result }
 {
     let marginal = layer[next + b];
     let v = Outcomes {

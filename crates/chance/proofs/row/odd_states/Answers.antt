@@ -16,10 +16,9 @@ pub loop-b-preserved : goal.loop-b-preserved
 loop-b-preserved c =
     let a = c.args in
     let l = c.loop-b in
-    let done = c.state-bad.ensures in
     let some = odd_some a.from l.b l.invariant.1 c.loop-b-test.true in
     let below : a.from ≤ l.b - 1 = omega (arith, some) in (
-      state_more a.t c.requires.valued c.requires.between c.requires.g_bound.0 l.invariant.0 (l.b - 1) (omega (arith, some)) below done.value done.layer_after,
+      state_more a.t c.requires.valued c.requires.between c.requires.g_bound.0 l.invariant.0 (l.b - 1) (omega (arith, some)) below c.state-bad.ensures,
       below,
       odd_less a.from a.to l.b l.invariant.1 l.invariant.0.at_most l.invariant.2 c.loop-b-test.true,
     )
