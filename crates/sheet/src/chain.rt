@@ -6,7 +6,7 @@ ghost use Rattle.plan.specs.Counts.{units};
 ghost use Rattle.sheetmodel.specs.Layout.{first_free, word};
 ghost use Rattle.sheetmodel.specs.Read.{serial_at, depth, read_inspections, read_free, undecided_before};
 ghost use Rattle.sheetmodel.specs.Rows.{is_some};
-ghost use Rattle.sheet.specs.Survey.{record_at, is_inspection, is_free, no_chain, with_chain, if_undecided, with_newer, tested, chain_of, newer_part, free_of};
+ghost use Rattle.sheet.specs.Survey.{record_if, is_inspection, is_free, no_chain, with_chain, if_undecided, with_newer, tested, chain_of, newer_part, free_of};
 
 use crate::layout::{FIRST_FREE, FREE_TAG};
 use crate::record::{Record, TAG, VALUE, field_of, record_at};
@@ -66,7 +66,7 @@ impl Part {
 impl Records<'_> {
     // The record `at`, if it is the inspection of the lot with this serial.
     fn inspection(self, lot: u32, serial: u32, at: usize) -> Option<Record>
-        ensures { result ≡ cond (is_inspection self.entry.first self.entry.sheet.now lot serial at) (Some (record_at self.entry.sheet.now at)) None }
+        ensures { result ≡ record_if (is_inspection self.entry.first self.entry.sheet.now lot serial at) self.entry.sheet.now at }
     {
         if !self.is_used(at) {
             return None;
@@ -185,7 +185,7 @@ impl Records<'_> {
 
     // The record `at`, if it is the free record of this depth.
     fn free(self, depth: u32, at: usize) -> Option<Record>
-        ensures { result ≡ cond (is_free self.entry.first self.entry.sheet.now depth at) (Some (record_at self.entry.sheet.now at)) None }
+        ensures { result ≡ record_if (is_free self.entry.first self.entry.sheet.now depth at) self.entry.sheet.now at }
     {
         if !self.is_used(at) {
             return None;
