@@ -2,7 +2,7 @@
 use Rattle.plan.proofs.Bools.{and_left, and_right}
 use Prim.Native.Nat.{ℕ, ◌+◌, ◌*◌, ◌≤◌, ◌<◌}
 use mathlib.Core.Path.{◌≡◌, refl, sym}
-use mathlib.Core.Bool.{Bool, true, false, cond}
+use mathlib.Core.Bool.{Bool, true, false}
 use mathlib.Core.List.{List}
 use native.Mathlib.Omega.{arith}
 use lib.ListN.{length}
@@ -14,16 +14,16 @@ use Rattle.sheetmodel.specs.Read.{in_use}
 use Rattle.sheet.specs.declared.record.Record.{Record}
 use Rattle.std.specs.Prelude.{Some, None}
 use Rattle.std.proofs.lemmas.Option.{cond_some}
-use Rattle.sheet.specs.Survey.{Sized, record_at, is_inspection}
+use Rattle.sheet.specs.Survey.{Sized, record_at, record_if, is_inspection}
 
 pub record_within : (first : ℕ) (w : List ℕ) (at : ℕ) → Sized w → in_use first w at ≡ true → 4 * at + 3 < length w
 record_within first w at s e = omega (arith, s.room, ltb-true at (word w next_unused) (and_right (leb first at) (ltb at (word w next_unused)) e))
 
 -- a record that was found passed the test, and is the one in the words; none was found where the test failed
-pub passed : (test : Bool) (w : List ℕ) (at : ℕ) (r : Record) → Some r ≡ cond test (Some (record_at w at)) None → (test ≡ true) × (record_at w at ≡ r)
+pub passed : (test : Bool) (w : List ℕ) (at : ℕ) (r : Record) → Some r ≡ record_if test w at → (test ≡ true) × (record_at w at ≡ r)
 passed test w at r e = cond_some test (record_at w at) r (sym e)
 
-pub failed : (test : Bool) (w : List ℕ) (at : ℕ) → None ≡ cond test (Some (record_at w at)) None → test ≡ false
+pub failed : (test : Bool) (w : List ℕ) (at : ℕ) → None ≡ record_if test w at → test ≡ false
 failed true w at e = absurd (cc)
 failed false w at e = refl
 

@@ -44,6 +44,10 @@ is_free first w depth at = in_use first w at && eqb (field w at 0) depth && eqb 
 abbrev pub is_lot : ℕ → List ℕ → ℕ → ℕ → Bool
 is_lot first w above at = in_use first w at && ltb above (field w at 0) && eqb (field w at 3) 0
 
+-- the record `at`, if it passes such a test
+abbrev pub record_if : Bool → List ℕ → ℕ → Option Record
+record_if test w at = cond test (Some (record_at w at)) None
+
 -- ---- a lot's inspections
 
 -- n units of which c are: undecided, if n is the number to be tested

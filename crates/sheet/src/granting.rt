@@ -2,14 +2,13 @@
 // 01, "Sheet"; document 02, change 7.
 ghost use Rattle.std.specs.Prelude.{◌≡◌, ◌≤◌, length};
 ghost use Rattle.sheetmodel.specs.Rows.{record_rows};
-ghost use Rattle.sheetmodel.specs.Calls.{contents, full, held_back, new_record, take_record};
+ghost use Rattle.sheetmodel.specs.Calls.{full, held_back, new_record, take_record};
 ghost use Rattle.sheet.specs.Granting.{grant_by};
-ghost use Rattle.sheet.specs.Sharing.{WholeSheet, HeldBy};
 ghost use Rattle.sheet.specs.Writes.{Room};
 ghost use Rattle.sheetmodel.specs.Layout.{least_size};
 
 use crate::layout::{FIRST_FREE, NEXT_UNUSED};
-use crate::offices::may_take;
+use crate::offices::Holdings;
 use crate::record::{NEXT, field_of, record_count};
 use plan::Refusal;
 
@@ -24,18 +23,19 @@ fn is_full(sheet: &[u32]) -> bool
     record_count(sheet) <= sheet[NEXT_UNUSED] as usize
 }
 
-// The rows about a record that is needed for a lot, by what each office holds.
-pub fn grant_record(sheet: &[u32], held: &[u32; 16], lot: u32) -> Result<(), Refusal>
-    requires { WholeSheet sheet.now × HeldBy (contents sheet.now).lots held.now }
-    ensures { result ≡ grant_by (record_rows (full sheet.now) (held_back lot sheet.now)) }
-{
-    if is_full(sheet) {
-        return Err(Refusal::Full);
+impl Holdings<'_> {
+    // The rows about a record that is needed for a lot.
+    pub fn grant_record(self, lot: u32) -> Result<(), Refusal>
+        ensures { result ≡ grant_by (record_rows (full self.entry.sheet.now) (held_back lot self.entry.sheet.now)) }
+    {
+        if is_full(self.sheet) {
+            return Err(Refusal::Full);
+        }
+        if !self.may_take(lot) {
+            return Err(Refusal::HeldBack);
+        }
+        Ok(())
     }
-    if !may_take(sheet, held, lot) {
-        return Err(Refusal::HeldBack);
-    }
-    Ok(())
 }
 
 pub fn new_record(sheet: &[u32]) -> u32

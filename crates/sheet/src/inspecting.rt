@@ -3,8 +3,8 @@
 ghost use Rattle.std.specs.Prelude.{◌≡◌};
 ghost use Rattle.sheetmodel.specs.Calls.{inspect};
 
-use crate::granting::grant_record;
 use crate::locating::locate_lot_and_count;
+use crate::offices::Holdings;
 use crate::progress::answer_to;
 use crate::writing::add_inspection;
 use plan::Refusal;
@@ -21,7 +21,8 @@ pub fn inspect(sheet: &mut [u32], lot: u32, class: u32) -> Result<(), Refusal>
     if !answer_to(sheet, found.chain.counts).goes_on() {
         return Err(Refusal::Decided);
     }
-    grant_record(sheet, &held, lot)?;
+    let holdings = Holdings { sheet, held: &held };
+    holdings.grant_record(lot)?;
     add_inspection(sheet, found.at, found.chain.counts.units(), class);
     Ok(())
 }

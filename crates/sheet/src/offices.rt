@@ -1,7 +1,7 @@
 // Offices and their shares of the records: which shares a sheet may have, what an office holds, and whether a
 // record may be taken. Document 02, change 7.
 ghost use Rattle.std.specs.Prelude.{◌≡◌, ◌+◌, ◌-◌, ◌≤◌, length, leb};
-ghost use Rattle.sheetmodel.specs.Layout.{largest, least_size, greatest_size, word, records, first_record, offices, share};
+ghost use Rattle.sheetmodel.specs.Layout.{largest, word, records, first_record, offices, share};
 ghost use Rattle.sheetmodel.specs.Offices.{office, added_up, shares_fit, spare, may_take};
 ghost use Rattle.sheetmodel.specs.Calls.{contents};
 ghost use Rattle.sheet.specs.Sharing.{WholeSheet, HeldBy, with_lot_held};
@@ -50,37 +50,45 @@ pub fn count_lot(held: &mut [u32; 16], lot: u32, inspections: u32)
     held[o] = held[o] + (1 + inspections);
 }
 
-// What the offices lack to reach their shares, added up.
-fn all_lacking(sheet: &[u32], held: &[u32; 16]) -> u64
-    requires { least_size ≤ length sheet.now }
-    ensures { result ≡ added_up offices (λ o. share sheet.now o - word held.now o) }
-{
-    let mut sum: u64 = 0;
-    for o in 0..OFFICES {
-        sum += u64::from(sheet[SHARES_START + o].saturating_sub(held[o]));
-    }
-    sum
+// A sheet that is not corrupt, and what each office holds of it.
+#[derive(Clone, Copy)]
+pub struct Holdings<'a> {
+    pub sheet: &'a [u32],
+    pub held: &'a [u32; 16],
+    pub ghost whole: { WholeSheet sheet.now },
+    pub ghost counted: { HeldBy (contents sheet.now).lots held.now },
 }
 
-// The records free and unused.
-fn spare(sheet: &[u32]) -> u64
-    requires { WholeSheet sheet.now }
-    ensures { result ≡ spare sheet.now (contents sheet.now) }
-{
-    let unused = record_count(sheet) as u64 - sheet[NEXT_UNUSED] as u64;
-    depth_of(sheet) as u64 + unused
-}
-
-// May the office of a lot take a record? An office that has its share lacks nothing, so that all lack what the
-// others lack.
-pub fn may_take(sheet: &[u32], held: &[u32; 16], lot: u32) -> bool
-    requires { WholeSheet sheet.now × HeldBy (contents sheet.now).lots held.now }
-    ensures { result ≡ may_take sheet.now (contents sheet.now) (office lot) }
-{
-    let left = spare(sheet);
-    let o = office_of(lot);
-    if held[o] < sheet[SHARES_START + o] {
-        return true;
+impl Holdings<'_> {
+    // What the offices lack to reach their shares, added up.
+    fn all_lacking(self) -> u64
+        ensures { result ≡ added_up offices (λ o. share self.entry.sheet.now o - word self.entry.held.now o) }
+    {
+        let mut sum: u64 = 0;
+        for o in 0..OFFICES {
+            sum += u64::from(self.sheet[SHARES_START + o].saturating_sub(self.held[o]));
+        }
+        sum
     }
-    all_lacking(sheet, held) < left
+
+    // The records free and unused.
+    fn spare(self) -> u64
+        ensures { result ≡ spare self.entry.sheet.now (contents self.entry.sheet.now) }
+    {
+        let unused = record_count(self.sheet) as u64 - u64::from(self.sheet[NEXT_UNUSED]);
+        u64::from(depth_of(self.sheet)) + unused
+    }
+
+    // May the office of a lot take a record? An office that has its share lacks nothing, so that all lack what
+    // the others lack.
+    pub fn may_take(self, lot: u32) -> bool
+        ensures { result ≡ may_take self.entry.sheet.now (contents self.entry.sheet.now) (office lot) }
+    {
+        let left = self.spare();
+        let o = office_of(lot);
+        if self.held[o] < self.sheet[SHARES_START + o] {
+            return true;
+        }
+        self.all_lacking() < left
+    }
 }

@@ -2,8 +2,8 @@
 ghost use Rattle.std.specs.Prelude.{◌≡◌};
 ghost use Rattle.sheetmodel.specs.Calls.{open_lot};
 
-use crate::granting::grant_record;
 use crate::locating::locate_and_count;
+use crate::offices::Holdings;
 use crate::writing::add_lot;
 use plan::Refusal;
 
@@ -19,7 +19,8 @@ pub fn open(sheet: &mut [u32], lot: u32) -> Result<(), Refusal>
     if found.at != 0 {
         return Err(Refusal::LotOpen);
     }
-    grant_record(sheet, &held, lot)?;
+    let holdings = Holdings { sheet, held: &held };
+    holdings.grant_record(lot)?;
     add_lot(sheet, lot, found.before);
     Ok(())
 }

@@ -10,7 +10,8 @@ pub fn size_ok(sheet: &[u32]) -> bool
     LEAST_SIZE <= sheet.len() && sheet.len() <= GREATEST_SIZE
 }
 
-// As many words as a sheet may have.
+// As many words as a sheet may have. A function that writes, or reads a word between two writes, asks for the
+// size itself: behind a `&mut` no `Sheet` lasts over a write.
 #[derive(Clone, Copy)]
 pub struct Sheet<'a> {
     pub words: &'a [u32],

@@ -1,11 +1,11 @@
 // One walk over a sheet: is it intact, where is the lot of a number, and what does each office hold?
-ghost use Rattle.std.specs.Prelude.{◌≡◌, ◌+◌, ◌≤◌, replicate, eqb, cond};
+ghost use Rattle.std.specs.Prelude.{◌≡◌, ◌+◌, ◌≤◌, replicate, eqb};
 ghost use Rattle.std.proofs.Math.Option.{some};
 ghost use Rattle.plan.specs.Plan.{stages};
 ghost use Rattle.plan.specs.Counts.{units};
 ghost use Rattle.sheetmodel.specs.Layout.{next_unused, first_lot, word, records, offices};
 ghost use Rattle.sheetmodel.specs.Read.{then, read_from, read_lots};
-ghost use Rattle.sheet.specs.Survey.{record_at, is_lot, with_lot_found, nothing_found, lots_survey, survey_of};
+ghost use Rattle.sheet.specs.Survey.{record_if, is_lot, with_lot_found, nothing_found, lots_survey, survey_of};
 ghost use Rattle.sheet.specs.Sharing.{Counted};
 
 use crate::chain::Chain;
@@ -56,7 +56,7 @@ impl Found {
 impl Records<'_> {
     // The record `at`, if it is a lot's, with a number above the last one.
     fn lot(self, above: u32, at: usize) -> Option<Record>
-        ensures { result ≡ cond (is_lot self.entry.first self.entry.sheet.now above at) (Some (record_at self.entry.sheet.now at)) None }
+        ensures { result ≡ record_if (is_lot self.entry.first self.entry.sheet.now above at) self.entry.sheet.now at }
     {
         if !self.is_used(at) {
             return None;

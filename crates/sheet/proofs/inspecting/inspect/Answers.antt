@@ -28,10 +28,10 @@ returns-then-not-goes_on c =
     rw (inspect_decided _ c.args.class _ _ k c.if-class-gt-HIGHEST_CLASS.false
     (sym (ap undecided c.answer_to.ensures) ∙ sym c.goes_on.ensures ∙ c.if-not-goes_on.true)) (record { value = refl; sheet_after = refl })
 
-pub grant_record-requires : goal.grant_record-requires
-grant_record-requires c =
+pub invariant_of-holdings : goal.invariant_of-holdings
+invariant_of-holdings c =
     let k = with_lot c.args.lot c.args.sheet.now c.in_ok-found.found (sym c.in_ok-found.ensures.value) in
-    (lot_whole_sheet _ _ _ k, c.in_ok-found.ensures.counted_on)
+    record { whole = lot_whole_sheet _ _ _ k; counted = c.in_ok-found.ensures.counted_on }
 
 pub units-requires : goal.units-requires
 units-requires c =

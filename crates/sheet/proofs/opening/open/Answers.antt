@@ -17,10 +17,10 @@ returns-then-found-ne0 c =
     let k = whole c.args.lot c.args.sheet.now c.in_ok-found.found (sym c.in_ok-found.ensures.value) in
     rw (open_there _ _ _ k c.if-lot-eq0.false c.if-found-ne0.true) (record { value = refl; sheet_after = refl })
 
-pub grant_record-requires : goal.grant_record-requires
-grant_record-requires c =
+pub invariant_of-holdings : goal.invariant_of-holdings
+invariant_of-holdings c =
     let k = whole c.args.lot c.args.sheet.now c.in_ok-found.found (sym c.in_ok-found.ensures.value) in
-    (whole_sheet _ _ _ k, c.in_ok-found.ensures.counted_on)
+    record { whole = whole_sheet _ _ _ k; counted = c.in_ok-found.ensures.counted_on }
 
 pub add_lot-requires : goal.add_lot-requires
 add_lot-requires c =

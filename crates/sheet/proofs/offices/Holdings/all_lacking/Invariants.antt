@@ -2,7 +2,7 @@
 use Rattle.std.proofs.Common.{◌≡◌, ◌-◌, ◌*◌, ◌≤◌}
 use Rattle.sheetmodel.specs.Layout.{largest, word, share}
 use Rattle.sheetmodel.specs.Offices.{added_up}
-use Rattle.sheet.proofs.offices.all_lacking.Given as goal
+use Rattle.sheet.proofs.offices.Holdings.all_lacking.Given as goal
 
 abbrev pub invariant-loop-o : goal.invariant-loop-o
-invariant-loop-o l = (l.sum ≤ largest * l.o) × (l.sum ≡ added_up l.o (λ a. share l.sheet a - word l.held a))
+invariant-loop-o l = (l.sum ≤ largest * l.o) × (l.sum ≡ added_up l.o (λ a. share l.self.sheet.now a - word l.self.held.now a))
