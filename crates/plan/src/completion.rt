@@ -6,20 +6,21 @@ ghost use Rattle.plan.specs.Plan.{stages, total};
 ghost use Rattle.plan.specs.Stopping.{at_filled, completed, earliest};
 
 use crate::counts::Counts;
-use crate::stage::{Answer, Stage, split_first};
+use crate::stage::{Answer, StageEnd, split_first};
 
-// The answer at a stage's end, after `end` units, where every unit after c is of one class. A stage that has
-// ended before c went on.
-#[tactic(auto, using(crate::proofs::Counting::added), unfolding(crate::specs::Stopping::at_filled))]
-fn at_filled(stage: Stage, class: u32, end: u32, c: Counts) -> Answer
-    requires { (units c ≤ 1000) × (end ≤ 1000) }
-    ensures { result ≡ at_filled class c end stage }
-{
-    let y = c.units();
-    if end < y {
-        return Answer::GoOn;
+impl StageEnd {
+    // The answer there, where every unit after c is of one class. A stage that has ended before c went on.
+    #[tactic(auto, using(crate::proofs::Counting::added), unfolding(crate::specs::Stopping::at_filled))]
+    fn at_filled(self, class: u32, c: Counts) -> Answer
+        requires { units c ≤ 1000 }
+        ensures { result ≡ at_filled class c self.end self.stage }
+    {
+        let y = c.units();
+        if self.end < y {
+            return Answer::GoOn;
+        }
+        self.stage.at_end(c.with(class, self.end - y))
     }
-    stage.at_end(c.with(class, end - y))
 }
 
 // The uncurtailed verdict where every unit after c is of one class.
@@ -32,7 +33,7 @@ fn completed(plan: &[u32], class: u32, c: Counts) -> Answer
     let mut end = 0;
     while let Some((stage, rest)) = split_first(left) {
         end += stage.size;
-        let verdict = at_filled(stage, class, end, c);
+        let verdict = StageEnd { stage, end }.at_filled(class, c);
         if !verdict.goes_on() {
             return verdict;
         }

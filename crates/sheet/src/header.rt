@@ -66,7 +66,9 @@ impl Sheet<'_> {
         lots <= MOST_CLOSED && units <= 1000 * lots
     }
 
-    // `first` is the first record after the header.
+    // `first` is the first record after the header. Kept out of the walk over the lots, which is then compiled
+    // to fewer instructions a lot: looks were 3 to 5 of 100 faster.
+    #[inline(never)]
     pub fn header_ok(self, first: u32) -> bool
         ensures { result ≡ header_ok first self.entry.words.now }
     {

@@ -1,6 +1,5 @@
 -- `sheet::fresh` meets its contract: the tests are in the order of the table, and the parts written make the header. Assumes nothing.
 use mathlib.Core.Path.{refl, sym, ◌∙◌}
-use Rattle.sheet.proofs.Sizes.{long_enough}
 use Rattle.sheet.proofs.FreshOutcome.{wrong_size, not_admitted, no_fit, granted}
 use Rattle.sheet.proofs.fresh_sheet.fresh.Goals as goal
 
@@ -21,11 +20,6 @@ returns-then-not-given_shares_fit c =
     let plan_is = sym c.admitted.ensures ∙ c.if-not-admitted.false in
     let a = c.args in
     rw (no_fit a.plan.now a.shares.now a.sheet.now size_is plan_is (sym c.given_shares_fit.ensures ∙ c.if-not-given_shares_fit.true)) (record { value = refl; sheet_after = refl })
-
-pub put_header-requires : goal.put_header-requires
-put_header-requires c =
-    let size_is = sym c.size_ok.ensures ∙ c.if-not-size_ok.false in
-    (long_enough c.args.sheet.now size_is, sym c.admitted.ensures ∙ c.if-not-admitted.false)
 
 pub returns : goal.returns
 returns c =

@@ -5,11 +5,7 @@ use Rattle.plan.specs.declared.refusal.Refusal.TheVariants as refusal
 use Rattle.sheetmodel.specs.Rows.{record_rows}
 use Rattle.sheetmodel.specs.Calls.{full, held_back}
 use Rattle.sheet.proofs.GrantFacts.{denying, giving}
-use Rattle.sheet.proofs.OfficeSteps.{sized_its}
 use Rattle.sheet.proofs.granting.grant_record.Goals as goal
-
-pub is_full-requires : goal.is_full-requires
-is_full-requires c = (sized_its c.args.sheet.now c.requires.0).long
 
 pub returns-then-is_full : goal.returns-then-is_full
 returns-then-is_full c =

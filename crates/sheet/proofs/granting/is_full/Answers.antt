@@ -1,7 +1,6 @@
 -- `sheet::is_full` meets its contract. Assumes nothing.
-use native.Mathlib.Omega.{arith}
 use borrow.Author.Tests.{eq-eqb, ne_eqb}
-use Rattle.sheetmodel.specs.Layout.{word, first_free, next_unused}
+use Rattle.sheetmodel.specs.Layout.{word, first_free}
 use Rattle.sheetmodel.specs.Calls.{full}
 use Rattle.sheet.proofs.granting.is_full.Goals as goal
 
@@ -12,6 +11,3 @@ returns-then-sheet-ne0 c = rw (ne_eqb (word c.args.sheet.now first_free) 0 c.if-
 pub returns : goal.returns
 unfolding full
 returns c = rw (eq-eqb (word c.args.sheet.now first_free) 0 c.if-sheet-ne0.false, c.record_count.ensures)
-
-pub overflow_cast-result : goal.overflow_cast-result
-overflow_cast-result c = omega (arith, c.shared_slice_known-3-1.given next_unused)

@@ -27,6 +27,3 @@ returns c =
       value = sym (there a.lot a.sheet.now c.in_ok-found.found (whole a.lot a.sheet.now c.in_ok-found.found (sym c.in_ok-found.ensures.value)) c.if-found-eq0.false);
       counted_on = c.in_ok-found.ensures.counted_on;
     }
-
-pub locate_and_count-requires : goal.locate_and_count-requires
-locate_and_count-requires c = c.requires

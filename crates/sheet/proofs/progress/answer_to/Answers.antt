@@ -1,9 +1,4 @@
 -- `sheet::answer_to` meets its contract. Assumes nothing.
-use mathlib.Core.Path.{ap, ◌∙◌}
-use mathlib.Core.List.{List}
-use Prim.Native.Nat.{ℕ}
-use Rattle.plan.specs.Plan.{stages}
-use Rattle.plan.specs.Stopping.{earliest}
 use Rattle.plan.proofs.Promise.{shape}
 use Rattle.sheetmodel.specs.Layout.{plan_words}
 use Rattle.sheet.proofs.HeaderSteps.{few_stages}
@@ -15,7 +10,3 @@ invariant_of-plan c = record { long = c.requires.0; few = few_stages c.args.shee
 pub earliest-requires : goal.earliest-requires
 earliest-requires c =
     (rw c.plan.ensures (shape (plan_words c.args.sheet.now) c.requires.1).thousand_units, c.requires.2)
-
-pub returns : goal.returns
-returns c =
-    c.earliest.ensures ∙ ap (λ (v : List ℕ). earliest (stages v) c.args.c) c.plan.ensures

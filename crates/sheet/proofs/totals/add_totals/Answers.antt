@@ -8,9 +8,6 @@ use Rattle.sheetmodel.specs.Calls.{add_totals}
 use Rattle.sheet.proofs.TotalsKept.{lots_total_in, other_kept}
 use Rattle.sheet.proofs.totals.add_totals.Goals as goal
 
-pub add_to-requires : goal.add_to-requires
-add_to-requires c = rw c.lots_total.ensures (omega (arith, lots_total_in c.args.answer))
-
 pub add_to-requires-2 : goal.add_to-requires-2
 add_to-requires-2 c =
     let after_lots : (k : ℕ) → good_units ≤ k → word c.add_to.new.sheet k ≡ word c.args.sheet.now k = λ k h. let l : c.lots_total.result ≤ rejected_lots = omega (arith, c.lots_total.ensures, lots_total_in c.args.answer) in
