@@ -48,8 +48,8 @@ pub enum Kind {
     Left,
 }
 
-// The last rejection numbers, what is expected, and whether it is rounded up, which is a bool because the states of a lot
-// were slower with an enum.
+// The last rejection numbers, what is expected, and whether it is rounded up. That is a bool because the states of a
+// lot were slower with an enum.
 #[derive(Clone, Copy)]
 pub struct Setting {
     pub r1: usize,

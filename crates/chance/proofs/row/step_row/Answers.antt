@@ -1,6 +1,5 @@
 -- `chance::step_row` meets its contract: decided states, then the others. Assumes nothing.
-use native.Mathlib.Omega.{arith}
-use Rattle.chance.proofs.InRow.{further_all, decided_valued, row_all}
+use Rattle.chance.proofs.InRow.{decided_valued, row_all}
 use Rattle.chance.proofs.row.step_row.Goals as goal
 
 pub step_states-requires-clause-valued : goal.step_states-requires-clause-valued
