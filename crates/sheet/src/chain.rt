@@ -55,11 +55,7 @@ impl Part {
     fn ended(self) -> Option<Chain>
         ensures { result ≡ cond (eqb self.next 0) (Some self.chain) None }
     {
-        if self.next == 0 {
-            Some(self.chain)
-        } else {
-            None
-        }
+        (self.next == 0).then_some(self.chain)
     }
 }
 

@@ -47,7 +47,7 @@ pub fn count_lot(held: &mut [u32; 16], lot: u32, inspections: u32)
     ensures { held.new ≡ with_lot_held held.old lot inspections }
 {
     let o = office_of(lot);
-    held[o] = held[o] + (1 + inspections);
+    held[o] += 1 + inspections;
 }
 
 // A sheet that is not corrupt, and what each office holds of it.
