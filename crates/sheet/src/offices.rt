@@ -28,6 +28,7 @@ impl Sheet<'_> {
     }
 
     // Would these?
+    #[tactic(auto, unfolding(sheetmodel::specs::Offices::shares_fit))]
     pub fn given_shares_fit(self, shares: &[u32; 16]) -> bool
         ensures { result ≡ shares_fit (word shares.now) self.entry.words.now }
     {

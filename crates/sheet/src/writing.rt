@@ -49,6 +49,7 @@ pub fn add_inspection(sheet: &mut [u32], at: u32, count: u32, class: u32)
 }
 
 // Takes the newest inspection of the lot in record `at` away.
+#[tactic(auto, using(crate::proofs::Unlinked::unlinked_newest), unfolding(sheetmodel::specs::Calls::without_newest))]
 pub fn remove_newest(sheet: &mut [u32], at: u32)
     requires { Striking sheet.old at }
     ensures { sheet.new ≡ without_newest sheet.old at (newest sheet.old at) }
