@@ -9,7 +9,7 @@ ghost use Rattle.std.specs.Prelude.{◌≤◌, length};
 ghost use Rattle.arrayvec.specs.ArrayVec.{array_vec_len};
 
 use arrayvec::ArrayVec;
-pub use lines::{Line, Lines};
+pub use lines::answer_lines;
 
 // The numbers of a line.
 pub type Words = ArrayVec<u32, 128>;

@@ -1,15 +1,17 @@
 // The lines of an input, read block by block.
 ghost use Rattle.std.specs.Prelude.{◌≤◌};
 
+use crate::print;
 use arrayvec::ArrayVec;
+use std::io;
 use std::io::{Read, Write};
 
 // A full list has the start of a line that is too long.
-pub type Line = ArrayVec<u8, 4096>;
+type Line = ArrayVec<u8, 4096>;
 
 // The bytes of the block from `at` to `count` are not yet taken.
 #[derive(Drop)]
-pub struct Lines<R> {
+struct Lines<R> {
     reader: R,
     block: [u8; 65536],
     at: usize,
@@ -19,7 +21,7 @@ pub struct Lines<R> {
 }
 
 impl<R: Read> Lines<R> {
-    pub fn new(reader: R) -> Lines<R> {
+    fn new(reader: R) -> Lines<R> {
         Lines {
             reader,
             block: [0; 65536],
@@ -50,7 +52,7 @@ impl<R: Read> Lines<R> {
 
     // Reads the next line; false at the input's end. The last line may lack its byte 10. Nothing says that a line ends:
     // the turns are counted, up to a number that no run reaches.
-    pub fn read_line(&mut self, line: &mut Line) -> bool {
+    fn read_line(&mut self, line: &mut Line) -> bool {
         line.clear();
         for _ in 0..u64::MAX {
             if !self.refill() {
@@ -62,4 +64,28 @@ impl<R: Read> Lines<R> {
         }
         true
     }
+}
+
+// Answers each line, and ends at the first failed write. Nothing says that the input ends: the lines are counted, up to
+// a number that no run reaches.
+pub fn answer_lines<R: Read + Drop, F: FnMut(&[u8]) -> io::Result<()> + Drop>(
+    rt: &impl Print,
+    input: R,
+    mut answer: F,
+) -> io::Result<()>
+    requires { F.IsAlwaysCallable answer }
+{
+    let mut lines = Lines::new(input);
+    let mut line = Line::new();
+    for _ in 0..u64::MAX {
+        if !lines.read_line(&mut line) {
+            break;
+        }
+        if line.is_full() {
+            print::bad_line(rt)?;
+        } else {
+            answer(line.as_slice())?;
+        }
+    }
+    Ok(())
 }

@@ -1,6 +1,6 @@
 -- The states of one row, in place: words filled with a value, states where inspection goes on, and the row as a whole.
 -- Assumes nothing.
-use Prim.Native.Nat.{ℕ, ◌+◌, ◌-◌, ◌*◌, ◌%◌, ◌≤◌, ◌<◌, min, max}
+use Prim.Native.Nat.{ℕ, ◌+◌, ◌-◌, ◌*◌, ◌%◌, ◌≤◌, ◌<◌, min}
 use mathlib.Core.Path.{◌≡◌, refl, sym, ap, subst, ◌∙◌}
 use mathlib.Core.Logic.{◌⊎◌, inl, inr, ⊎_elim, ◌≢◌}
 use mathlib.Core.Bool.{Bool, true, false, cond}
@@ -9,7 +9,7 @@ use lib.ListN.{length, get_or, set, length-set}
 use lib.Seq.{get_or-set_same, get_or-set_other}
 use lib.Dec.{ltb}
 use borrow.Author.Tests.{ltb-true, ltb-false}
-use native.Mathlib.Nat.{eq-or-lt_of_le, mul-le-mul_right, suc-mul}
+use native.Mathlib.Nat.{eq-or-lt_of_le}
 use native.Mathlib.Decide.{dec_lt}
 use native.Mathlib.Omega.{arith}
 use Rattle.chance.specs.declared.setting.Setting.{Setting}
@@ -17,7 +17,7 @@ use Rattle.chance.specs.declared.constant.Constant.{Constant}
 use Rattle.chance.specs.declared.row.Undecided.{Undecided}
 use Rattle.chance.specs.Chance.{scale}
 use Rattle.chance.specs.Layer.{word, state_value, Values, Valued, Between, Filled, further, Further, FurtherTo, Decided, SteppedRow}
-use Rattle.chance.specs.Constant.{constant_value, Legible}
+use Rattle.chance.specs.Constant.{constant_value, Legible, SteppedState}
 use Rattle.chance.proofs.States.{constant_is, inside, next_row, word_is, word_at_most, word_same, further_is, further_same}
 
 -- a word that was set, and the others
@@ -28,26 +28,6 @@ module _ (layer : List ℕ) (k v : ℕ) (fits : k < length layer) where
 -- ---- words from `from` on, filled up to `to`
 
 module _ {from value : ℕ} {before : List ℕ} where
-  pub fill_none : Filled from from value before before
-  fill_none = record { done = λ k h m. absurd (omega arith); others = λ k h. refl }
-
-  pub fill_more : {layer : List ℕ} {i : ℕ} → Filled from i value before layer → from ≤ i → i < length layer → Filled from (i + 1) value before (set layer i value)
-  fill_more {layer} {i} p l fits =
-      record {
-        done = λ k h m. ⊎_elim {C = get_or (set layer i value) k 0 ≡ value} (set_at layer i value fits k)
-            (λ q. get_or-set_other layer i k value 0 (omega arith) ∙ p.done k h q) (eq-or-lt_of_le {n = k} {m = i} (omega arith));
-        others = λ k h. get_or-set_other layer i k value 0 (⊎_elim (λ a. omega arith) (λ a. omega arith) h)
-            ∙ p.others k (⊎_elim {C = (k < from) ⊎ (i ≤ k)} inl (λ a. inr (omega arith)) h);
-      }
-
-  -- the words up to i, which is `to` where there are such
-  pub fill_all : {to : ℕ} {layer : List ℕ} {i : ℕ} → Filled from i value before layer → i ≡ max from to → Filled from to value before layer
-  fill_all {to} {layer} {i} p e =
-      record {
-        done = λ k h m. p.done k h (omega arith);
-        others = λ k h. p.others k (elim (dec_lt k from) [ yes q ↦ inl q | no q ↦ inr (⊎_elim {C = i ≤ k} (λ a. absurd (omega arith)) (λ a. omega arith) h) ]);
-      }
-
   pub filled_values : {to : ℕ} {layer : List ℕ} (n m : ℕ) → Filled from to value before layer → value ≤ m → Values n m before → Values n m layer
   filled_values {to} {layer} n m p l h i k = go (dec_lt i from) (dec_lt i to)
     where
@@ -69,9 +49,6 @@ pub record Reading (s : Setting) (g k : ℕ) (before layer : List ℕ) (carried 
   pub bad_most : carried ≤ scale
 
 module _ {s : Setting} {y g from to : ℕ} {before : List ℕ} where
-  pub further_none : {bad : ℕ} → bad ≡ word s.r1 s.r2 before (g + 1) to → FurtherTo s y g from to before before bad to
-  further_none e = record { same = refl; at_least = omega arith; at_most = omega arith; done = λ k h l. absurd (omega arith); others = λ i h. refl; bad_is = e }
-
   pub further_all : {layer : List ℕ} {bad b : ℕ} → FurtherTo s y g from to before layer bad b → b ≤ from → Further s y g from to before layer
   further_all {layer} {bad} {b} p l =
       record {
@@ -170,14 +147,13 @@ module _ (t : Constant) {y g from to bad b : ℕ} {before layer : List ℕ} (val
   }
 
   -- one state more
-  pub state_more : from ≤ k → {after : List ℕ} {marginal : ℕ} → marginal ≡ get_or layer (g * t.setting.r2 + t.setting.r2 + k) 0
-      → after ≡ set layer (g * t.setting.r2 + k) (constant_value t.setting (get_or layer (g * t.setting.r2 + k) 0) (get_or layer (g * t.setting.r2 + t.setting.r2 + k) 0) bad)
+  pub state_more : from ≤ k → {after : List ℕ} {marginal : ℕ} → SteppedState t.setting (g * t.setting.r2 + k) (g * t.setting.r2 + t.setting.r2 + k) bad layer after marginal
       → FurtherTo t.setting y g from to before after marginal k
-  state_more l {after} {marginal} e q =
+  state_more l {after} {marginal} stepped =
       let word_on = sym on ∙ read.marginal in
       let value = constant_is t.setting y g k _ _ bad t.same ∙ further_is t.setting before y g k read.good word_on read.bad in
-      subst (λ (x : List ℕ). FurtherTo t.setting y g from to before x marginal k) (sym q)
-      (further_more p k (constant_value t.setting (get_or layer (g * t.setting.r2 + k) 0) (get_or layer (g * t.setting.r2 + t.setting.r2 + k) 0) bad) marginal one l read.place value (e ∙ word_on))
+      subst (λ (x : List ℕ). FurtherTo t.setting y g from to before x marginal k) (sym stepped.written)
+      (further_more p k (constant_value t.setting (get_or layer (g * t.setting.r2 + k) 0) (get_or layer (g * t.setting.r2 + t.setting.r2 + k) 0) bad) marginal one l read.place value (stepped.read ∙ word_on))
 
 -- the states that four do not go into, which come first, and those that are left then
 pub odd_some : (from b : ℕ) → from ≤ b → (b - from) % 4 ≢ 0 → from < b
@@ -199,24 +175,6 @@ pub four_less : (from b : ℕ) → from + 4 ≤ b → (b - from) % 4 ≡ 0 → (
 four_less from b h e = omega arith
 
 -- ---- the row: rejected and accepted states filled, those between the limits stepped
-
--- the whole row stands in the layer
-pub row_room : {layer : List ℕ} {s : Setting} {g : ℕ} → Valued layer s → g < s.r1 → g * s.r2 + s.r2 ≤ length layer
-row_room {layer} {s} {g} h l = omega (arith, h.room, mul-le-mul_right s.r2 l, suc-mul g s.r2)
-
-pub row_decided : {s : Setting} {g accept reject from to end : ℕ} {before layer after : List ℕ}
-    → end ≡ min (g + 1) s.r2 → from ≡ min accept end → to ≡ min reject end
-    → Filled (g * s.r2 + to) (g * s.r2 + end) 0 before layer → Filled (g * s.r2) (g * s.r2 + from) s.worth.accepted layer after
-    → Decided s g accept reject before after (record { from = from; to = to })
-row_decided {s} {g} {accept} {reject} {from} {to} {end} ends from_is to_is rejected accepted = record {
-  from_is = from_is ∙ ap (min accept) ends;
-  to_is = to_is ∙ ap (min reject) ends;
-  accepted = λ b h. accepted.done (g * s.r2 + b) (omega arith) (omega arith);
-  rejected = λ b h l m. accepted.others (g * s.r2 + b) (inr (omega arith)) ∙ rejected.done (g * s.r2 + b) (omega arith) (omega arith);
-  undecided = λ b h l. accepted.others (g * s.r2 + b) (inr (omega arith)) ∙ rejected.others (g * s.r2 + b) (inl (omega arith));
-  others = λ i h. accepted.others i (⊎_elim {C = (i < g * s.r2) ⊎ (g * s.r2 + from ≤ i)} inl (λ l. inr (omega arith)) h)
-      ∙ rejected.others i (⊎_elim {C = (i < g * s.r2 + to) ⊎ (g * s.r2 + end ≤ i)} (λ l. inl (omega arith)) (λ l. inr (omega arith)) h);
-}
 
 module _ {s : Setting} {g accept reject : ℕ} {u : Undecided} {before layer : List ℕ} (decided : Decided s g accept reject before layer u) where
   pub decided_valued : Valued before s → length layer ≡ length before → Valued layer s

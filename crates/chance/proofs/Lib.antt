@@ -12,7 +12,6 @@ mod InRow
 mod Decisions
 mod InPlace
 mod Induction
-mod Parts
 mod Replies
 mod Draws
 mod LotLaw

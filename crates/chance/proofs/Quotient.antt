@@ -7,9 +7,8 @@ use Prim.Native.Nat.{ℕ, suc, ◌+◌, ◌-◌, ◌*◌, ◌^◌, ◌≤◌, �
 use native.Mathlib.Nat.{le_of_lt, lt_of_lt_of_le, mul-pos, one-mul, mul_comm, mul_assoc}
 use native.Mathlib.Omega.{arith}
 use lib.IntN.{pos}
-use lib.Dec.{T, le→leb}
 use lib.Pow.{pow-add, pow_pos, pow_mono, shl_lt}
-use lib.Ieee.{Float, nan, inf, fin, Format, binary64, prec, emax, low, up, down, round, div, of_int, in_float}
+use lib.Ieee.{Float, nan, inf, fin, Format, binary64, prec, emax, low, up, down, round, div, of_int}
 use lib.Ieee.Fits.{down_pos, reach}
 use lib.Ieee.Exact.{HasValue, round_exact}
 use lib.Ieee.Back.{round_whole}
@@ -54,11 +53,6 @@ unfolding Exactly
 exactly nan x k h = elim h [ ]
 exactly (inf _) x k h = elim h [ ]
 exactly (fin s m e) x k h = h
-
--- what `x as f64` asks
-pub casts : (x : ℕ) → x < 2 ^ 53 → T (in_float binary64 (pos x))
-unfolding in_float
-casts x X = le→leb x (2 ^ 53) (le_of_lt X)
 
 pub fraction_law : FractionLaw
 fraction_law k x K X = exactly (quotient x k) x k (divided binary64 x k K X)

@@ -6,17 +6,15 @@ use mathlib.Core.Bool.{Bool, true, false, cond}
 use mathlib.Core.List.{List}
 use lib.ListN.{get_or}
 use lib.Dec.{ltb}
-use borrow.Author.Tests.{ltb-true, lt-ltb, le-ltb}
+use borrow.Author.Tests.{ltb-true, lt-ltb}
 use native.Mathlib.Nat.{mul-le-mul_left, mul-le-mul_right, suc-mul, add-mul}
 use native.Mathlib.Omega.{arith}
-use Rattle.plan.specs.declared.counts.Counts.{Counts}
 use Rattle.chance.specs.declared.mean.Weights.{Weights}
 use Rattle.chance.specs.declared.setting.Setting.{Setting}
-use Rattle.chance.specs.declared.setting.Kind.{Kind}
-use Rattle.chance.specs.declared.setting.Kind.TheVariants.{Same, Left}
+use Rattle.chance.specs.declared.setting.Kind.TheVariants.{Same}
 use Rattle.chance.specs.Bounds.{weight_sum, weighted, Rounding, rounded}
 use Rattle.chance.specs.Constant.{constant_value}
-use Rattle.chance.specs.Layer.{rounding, weights_by, setting_weights, at, word, state_value, further, Values}
+use Rattle.chance.specs.Layer.{rounding, setting_weights, at, word, state_value, further, Values}
 use Rattle.chance.proofs.Rounding.{rounded_le}
 
 -- ---- the mean of three values, none above m
@@ -34,17 +32,6 @@ module _ (w : Weights) {m good marginal bad : ℕ} (h : (good ≤ m) × (margina
   pub mean_at_most : (r : Rounding) → rounded r (weighted w good marginal bad) (weight_sum w) ≤ m
   mean_at_most r = rounded_le r (weighted w good marginal bad) (weight_sum w) m (simp add-mul (omega (arith, products)))
 
--- weights do not rise
-pub weights_few : (s : Setting) (c : Counts) → weight_sum (setting_weights s c) ≤ weight_sum s.weights
-weights_few s c = go s.kind
-  where
-    go : (k : Kind) → weight_sum (weights_by k s.weights c) ≤ weight_sum s.weights
-    go Same = omega arith
-    go Left = omega arith
-
-pub constant_weights : (s : Setting) (c : Counts) → s.kind ≡ Same → s.weights ≡ setting_weights s c
-constant_weights s c e = rw e
-
 -- ---- the word of a state
 
 pub inside : (r1 r2 g b : ℕ) → g < r1 → b < r2 → g * r2 + b < r1 * r2
@@ -56,16 +43,6 @@ next_row r2 g = omega (arith, add-mul g 1 r2)
 module _ (r1 r2 : ℕ) (layer : List ℕ) (g b : ℕ) where
   pub word_is : g < r1 → b < r2 → word r1 r2 layer g b ≡ get_or layer (g * r2 + b) 0
   word_is h l = rw (lt-ltb g r1 h, lt-ltb b r2 l)
-
-  pub word_past_row : r1 ≤ g → word r1 r2 layer g b ≡ 0
-  word_past_row h = rw (le-ltb g r1 h)
-
-  pub word_past : r2 ≤ b → word r1 r2 layer g b ≡ 0
-  word_past h = go (ltb g r1)
-    where
-      go : (p : Bool) → cond p (cond (ltb b r2) (get_or layer (g * r2 + b) 0) 0) 0 ≡ 0
-      go true = rw (le-ltb b r2 h)
-      go false = refl
 
   pub word_most : (m : ℕ) → (g < r1 → b < r2 → get_or layer (g * r2 + b) 0 ≤ m) → word r1 r2 layer g b ≤ m
   word_most m h = go (ltb g r1) (ltb b r2) refl refl

@@ -1,5 +1,5 @@
 -- A step with constant weights: what the contracts of the inner functions cite.
-use Rattle.std.specs.Prelude.{ℕ, ◌+◌, ◌-◌, ◌*◌, ◌≤◌, ◌<◌, cond, List, length, get_or}
+use Rattle.std.specs.Prelude.{ℕ, ◌+◌, ◌-◌, ◌*◌, ◌≤◌, ◌<◌, ◌≡◌, cond, List, length, get_or, set}
 use Rattle.chance.specs.declared.setting.Setting.{Setting}
 use Rattle.chance.specs.Bounds.{weight_sum, weighted, rounded}
 use Rattle.chance.specs.Chance.{scale}
@@ -20,3 +20,8 @@ pub record Legible (layer : List ℕ) (place next bad : ℕ) : Type 0 where
   pub good_most : get_or layer place 0 ≤ scale
   pub marginal_most : get_or layer next 0 ≤ scale
   pub bad_most : bad ≤ scale
+
+-- after a step of that place; the word that was read in the next row is given back
+pub record SteppedState (s : Setting) (place next bad : ℕ) (before after : List ℕ) (marginal : ℕ) : Type 0 where
+  pub read : marginal ≡ get_or before next 0
+  pub written : after ≡ set before place (constant_value s (get_or before place 0) (get_or before next 0) bad)

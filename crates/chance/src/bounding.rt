@@ -16,6 +16,7 @@ use plan::Refusal;
 pub const MOST: u64 = 1000000;
 
 // The last r1 and the last r2.
+#[tactic(auto, using(plan::proofs::Promise::shape))]
 fn last_rejections(plan: &[u32]) -> (usize, usize)
     requires { admitted plan.now ≡ true }
     ensures { result ≡ (last_reject1 (stages plan.now), last_reject2 (stages plan.now)) }
@@ -41,6 +42,7 @@ fn bounds(plan: &[u32], scratch: &mut [u64], s: Setting) -> Bounds
 }
 
 // Low and high, if the scratch has room for them.
+#[tactic(auto, using(crate::proofs::Replies::few_words))]
 pub fn fitted(
     plan: &[u32],
     scratch: &mut [u64],

@@ -45,7 +45,7 @@ pub fn chart(plan: &[u32], w0: u32, w1: u32, w2: u32, scratch: &mut [u64]) -> Re
     Ok(fractions(bounds, CERTAIN))
 }
 
-// Those of the expected number of units.
+// Those of the expected number of units: a call of its own, as the interface has it.
 pub fn units_chart(
     plan: &[u32],
     w0: u32,

@@ -9,7 +9,7 @@ use crate::mean::Weights;
 use crate::setting::Worth;
 use plan::Refusal;
 
-// Low and high, in units of 2^-30, or the refusal.
+// Low and high, in units of 2^-30, or the refusal: a call of its own, as the interface has it.
 pub fn units(
     plan: &[u32],
     w0: u32,

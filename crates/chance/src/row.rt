@@ -1,8 +1,8 @@
 // A row of a layer, the states of g nongood units, in place: from the values at y + 1 units to those at y. The
 // state of g nongood and b bad units stands at g * r2 + b, for g below r1 and b below r2.
-ghost use Rattle.std.specs.Prelude.{◌≡◌, ◌+◌, ◌-◌, ◌*◌, ◌%◌, ◌≤◌, ◌<◌, min, length, get_or, set};
+ghost use Rattle.std.specs.Prelude.{◌≡◌, ◌+◌, ◌-◌, ◌*◌, ◌%◌, ◌≤◌, ◌<◌, length};
 ghost use Rattle.chance.specs.Layer.{word, Valued, Between, Weighs, Filled, Further, FurtherTo, Decided, SteppedRow};
-ghost use Rattle.chance.specs.Constant.{constant_value, Legible};
+ghost use Rattle.chance.specs.Constant.{Legible, SteppedState};
 
 use crate::constant::Constant;
 use crate::means::Means;
@@ -42,19 +42,11 @@ fn edge_value(layer: &[u64], s: Setting, g: usize, b: usize) -> u64
 
 // The states between two numbers of bad units, where inspection goes on. From the last to the first, so that of the
 // next row each word is read once: the value after a marginal unit is that of the state before after a bad one.
-// Gives the one that was read last.
-fn step_states<M: Means>(
-    layer: &mut [u64],
-    means: M,
-    y: usize,
-    g: usize,
-    from: usize,
-    to: usize,
-) -> u64
+fn step_states<M: Means>(layer: &mut [u64], means: M, y: usize, g: usize, from: usize, to: usize)
     requires valued { Valued layer.old (M.of means) }
     requires between { Between (M.of means) y g to }
     requires weighs { Weighs (M.of means) y g from to }
-    ensures { FurtherTo (M.of means) y g from to layer.old layer.new result (min from to) }
+    ensures { Further (M.of means) y g from to layer.old layer.new }
 {
     let s = means.setting();
     let start = g * s.r2;
@@ -69,14 +61,12 @@ fn step_states<M: Means>(
         layer[start + b] = means.value(y, g, b, v);
         bad = marginal;
     }
-    bad
 }
 
 // One state, with constant weights. What is read in the next row is given back.
 fn state(layer: &mut [u64], t: Constant, row: usize, next: usize, b: usize, bad: u64) -> u64
     requires { Legible layer.old (row + b) (next + b) bad }
-    ensures value { result ≡ get_or layer.old (next + b) 0 }
-    ensures layer_after { layer.new ≡ set layer.old (row + b) (constant_value t.setting (get_or layer.old (row + b) 0) (get_or layer.old (next + b) 0) bad) }
+    ensures { SteppedState t.setting (row + b) (next + b) bad layer.old layer.new result }
 {
     let marginal = layer[next + b];
     let v = Outcomes {
@@ -88,8 +78,8 @@ fn state(layer: &mut [u64], t: Constant, row: usize, next: usize, b: usize, bad:
     marginal
 }
 
-// The last states of those that `step_fours` steps, until four go into the number of the others. `step_states` would do
-// the same, but as a loop that counts its turns it became vector code, which was slower for so few.
+// The last states of those that `step_fours` steps, until four go into the number of the others. As a `for`, which
+// counts its turns, the loop became vector code, which was slower for so few.
 fn odd_states(layer: &mut [u64], t: Constant, y: usize, g: usize, from: usize, to: usize) -> u64
     requires valued { Valued layer.old t.setting }
     requires between { Between t.setting y g to }

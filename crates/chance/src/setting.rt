@@ -48,7 +48,8 @@ pub enum Kind {
     Left,
 }
 
-// The last rejection numbers, what is expected, and whether it is rounded up: a bool, as an enum made a lot's states slower.
+// The last rejection numbers, what is expected, and whether it is rounded up. That is a bool because the states of a
+// lot were slower with an enum.
 #[derive(Clone, Copy)]
 pub struct Setting {
     pub r1: usize,

@@ -1,3 +1,4 @@
+-- What the proofs of several functions use. The laws of numbers, lines and blocks are those of commandmodel.
 pub mod Kept
 pub mod Letters
 pub mod Numbers

@@ -1,5 +1,7 @@
 -- A block taken line by line: what is fed and how much is taken up to the next byte 10.
-use Rattle.std.proofs.Common.{◌≡◌, ◌∙◌, refl, ap, sym, ℕ, suc, ◌+◌, ◌-◌, ◌<◌, ◌≤◌, Bool, true, false, cond, eqb, List, [], ◌∷◌, ◌++◌, length, get_or, take, drop, append_assoc, append-nil, length-append, length-take, add-one, arith}
+use Rattle.std.proofs.Common.{◌≡◌, ◌∙◌, refl, ap, sym, ℕ, suc, ◌+◌, ◌-◌, ◌<◌, ◌≤◌, Bool, true, false, cond, eqb, List}
+use Rattle.std.proofs.Common.{[], ◌∷◌, ◌++◌, length, get_or, take, drop, append_assoc, append-nil, length-append}
+use Rattle.std.proofs.Common.{length-take, add-one, arith}
 use Rattle.std.proofs.Math.Seq.{take-append-add, drop-cons}
 use borrow.Author.Tests.{lt-leb, le-leb, eqb-true, ltb-false}
 use Rattle.std.specs.Prelude.{None, Some, position, ltb, nat_lt}
@@ -33,7 +35,9 @@ module _ (rest : List ℕ) where
       past : length rest ≤ position_or_len ends_line rest
       past = go (nat_lt (position_or_len ends_line rest) (length rest)) refl e
         where
-          go : (t : Bool) → ltb (position_or_len ends_line rest) (length rest) ≡ t → cond t (Some (position_or_len ends_line rest)) None ≡ None → length rest ≤ position_or_len ends_line rest
+          go : (t : Bool) → ltb (position_or_len ends_line rest) (length rest) ≡ t
+              → cond t (Some (position_or_len ends_line rest)) None ≡ None
+              → length rest ≤ position_or_len ends_line rest
           go true h q = let z : ◌≡◌ {A = ℕ} 0 1 = cc in absurd (omega arith)
           go false h q = ltb-false (position_or_len ends_line rest) (length rest) h
 
@@ -43,9 +47,12 @@ module _ (rest : List ℕ) where
 
     pub cut_line : rest ≡ (take end rest ++ (end_of_line ∷ [])) ++ drop (end + 1) rest
     cut_line =
-        let at : get_or rest end 0 ≡ end_of_line = eqb-true (get_or rest end 0) end_of_line (position-Some ends_line rest end 0 e).1 in
+        let at : get_or rest end 0 ≡ end_of_line = eqb-true (get_or rest end 0) end_of_line
+        (position-Some ends_line rest end 0 e).1 in
         let h : end < length rest = end_within in
-        sym (take-append-drop end rest) ∙ ap (λ (x : List ℕ). take end rest ++ x) (drop-cons rest end 0 h ∙ (λ i. at i ∷ drop (sym (add-one end) i) rest))
+        sym (take-append-drop end rest)
+        ∙ ap (λ (x : List ℕ). take end rest ++ x)
+        (drop-cons rest end 0 h ∙ (λ i. at i ∷ drop (sym (add-one end) i) rest))
         ∙ sym (append_assoc (take end rest) (end_of_line ∷ []) (drop (end + 1) rest))
 
     pub inside_line : Inside (take end rest)
@@ -56,18 +63,22 @@ module _ (rest : List ℕ) where
 
 -- ---- what is fed
 
-piece_kept : (l w s : List ℕ) → Inside s → length l ≤ most_kept → fed l w s ≡ record { line = kept l s; words = w; replies = [] }
+piece_kept : (l w s : List ℕ) → Inside s → length l ≤ most_kept
+    → fed l w s ≡ record { line = kept l s; words = w; replies = [] }
 unfolding fed
 piece_kept l w [] inside h = ap (λ (m : List ℕ). record { line = m; words = w; replies = [] }) (sym (kept_nothing l h))
 piece_kept l w (b ∷ bs) inside h =
-    rw (inside 0 (omega arith)) (ap (after_replies []) (piece_kept (kept l (b ∷ [])) w bs (inside_tail b bs inside) (kept_within l (b ∷ [])))
+    rw (inside 0 (omega arith))
+    (ap (after_replies []) (piece_kept (kept l (b ∷ [])) w bs (inside_tail b bs inside) (kept_within l (b ∷ [])))
     ∙ ap (λ (m : List ℕ). record { line = m; words = w; replies = [] }) (kept_kept l (b ∷ []) bs))
 
-pub piece_fed : (l w s : List ℕ) → Inside s → 1 ≤ length s → fed l w s ≡ record { line = kept l s; words = w; replies = [] }
+pub piece_fed : (l w s : List ℕ) → Inside s → 1 ≤ length s
+    → fed l w s ≡ record { line = kept l s; words = w; replies = [] }
 unfolding fed
 piece_fed l w [] inside some = absurd (omega arith)
 piece_fed l w (b ∷ bs) inside some =
-    rw (inside 0 (omega arith)) (ap (after_replies []) (piece_kept (kept l (b ∷ [])) w bs (inside_tail b bs inside) (kept_within l (b ∷ [])))
+    rw (inside 0 (omega arith))
+    (ap (after_replies []) (piece_kept (kept l (b ∷ [])) w bs (inside_tail b bs inside) (kept_within l (b ∷ [])))
     ∙ ap (λ (m : List ℕ). record { line = m; words = w; replies = [] }) (kept_kept l (b ∷ []) bs))
 
 -- a line is answered by what is kept of it
@@ -79,13 +90,16 @@ ends l w = record { line = []; words = (answer l w).words; replies = (answer l w
 
 end_fed : (l w : List ℕ) → fed l w (end_of_line ∷ []) ≡ ends l w
 unfolding fed
-end_fed l w = ap (λ (r : List ℕ). record { line = []; words = (answer l w).words; replies = r }) (append-nil (answer l w).reply)
+end_fed l w = ap (λ (r : List ℕ). record { line = []; words = (answer l w).words; replies = r })
+    (append-nil (answer l w).reply)
 
 pub line_fed : (l w s : List ℕ) → Inside s → fed l w (s ++ (end_of_line ∷ [])) ≡ ends (kept l s) w
-line_fed l w [] inside = end_fed l w ∙ ap (λ (a : Outcome (List ℕ)). record { line = []; words = a.words; replies = a.reply }) (same_answer l w)
+line_fed l w [] inside = end_fed l w
+    ∙ ap (λ (a : Outcome (List ℕ)). record { line = []; words = a.words; replies = a.reply }) (same_answer l w)
 line_fed l w (b ∷ bs) inside =
     fed_append l w (b ∷ bs) (end_of_line ∷ [])
-    ∙ ap (λ (f : Fed). after_replies f.replies (fed f.line f.words (end_of_line ∷ []))) (piece_fed l w (b ∷ bs) inside (omega arith))
+    ∙ ap (λ (f : Fed). after_replies f.replies (fed f.line f.words (end_of_line ∷ [])))
+    (piece_fed l w (b ∷ bs) inside (omega arith))
     ∙ end_fed (kept l (b ∷ bs)) w
 
 -- ---- how many bytes are taken
@@ -106,7 +120,8 @@ pub taken_piece : (room : ℕ) (l w s : List ℕ) → Inside s → longest_reply
 unfolding taken
 taken_piece room l w [] inside h = refl
 taken_piece room l w (b ∷ bs) inside h =
-    rw (le-leb longest_reply room h, inside 0 (omega arith), less_none) (ap suc (taken_piece room (kept l (b ∷ [])) w bs (inside_tail b bs inside) h))
+    rw (le-leb longest_reply room h, inside 0 (omega arith), less_none)
+    (ap suc (taken_piece room (kept l (b ∷ [])) w bs (inside_tail b bs inside) h))
 
 pub taken_line : (room : ℕ) (l w s rest : List ℕ) → Inside s → longest_reply ≤ room
     → taken room l w (s ++ (end_of_line ∷ rest))
@@ -122,8 +137,10 @@ taken_line room l w [] rest inside h =
 taken_line room l w (b ∷ bs) rest inside h =
     rw (le-leb longest_reply room h, inside 0 (omega arith), less_none)
     (ap suc (taken_line room (kept l (b ∷ [])) w bs rest (inside_tail b bs inside) h)
-    ∙ ap (λ (m : List ℕ). suc (suc (length bs) + taken (room - length (answer m w).reply) [] (answer m w).words rest)) (kept_kept l (b ∷ []) bs)
-    ∙ one (length bs) (taken (room - length (answer (kept l (b ∷ bs)) w).reply) [] (answer (kept l (b ∷ bs)) w).words rest))
+    ∙ ap (λ (m : List ℕ). suc (suc (length bs) + taken (room - length (answer m w).reply) [] (answer m w).words rest))
+    (kept_kept l (b ∷ []) bs)
+    ∙ one (length bs) (taken (room - length (answer (kept l (b ∷ bs)) w).reply) [] (answer (kept l (b ∷ bs)) w).words
+    rest))
   where
     one : (j k : ℕ) → suc (suc j + k) ≡ suc (suc j) + k
     one j k = omega arith
@@ -141,7 +158,8 @@ pub record Taking (room : ℕ) (block line₀ sheet₀ replies₀ line sheet rep
   pub printed : List ℕ
   pub so_far : fed line₀ sheet₀ before ≡ record { line = line; words = sheet; replies = printed }
   pub reply_bytes : replies ≡ replies₀ ++ printed
-  pub number : taken (room - length replies₀) line₀ sheet₀ block ≡ length before + taken (room - length replies) line sheet rest
+  pub number : taken (room - length replies₀) line₀ sheet₀ block ≡ length before + taken (room - length replies) line
+      sheet rest
 
 module _ (room : ℕ) (block line₀ sheet₀ replies₀ : List ℕ) where
   pub begins : Taking room block line₀ sheet₀ replies₀ line₀ sheet₀ replies₀ block
@@ -155,14 +173,20 @@ module _ (room : ℕ) (block line₀ sheet₀ replies₀ : List ℕ) where
     number = omega arith;
   }
 
-  module _ (line sheet replies rest : List ℕ) (t : Taking room block line₀ sheet₀ replies₀ line sheet replies rest) where
+  module _ (line sheet replies rest : List ℕ)
+      (t : Taking room block line₀ sheet₀ replies₀ line sheet replies rest) where
     pub within : length t.before + length rest ≡ length block
     within = omega (arith, ap length t.split, length-append t.before rest)
 
     -- nothing more is taken
     pub stopped : (at : ℕ) → at ≡ length block - length rest → taken (room - length replies) line sheet rest ≡ 0
-        → (at ≡ taken (room - length replies₀) line₀ sheet₀ block) × Left (fed line₀ sheet₀ (take at block)) replies₀ line sheet replies
-    stopped at e none = (omega (arith, t.number, within), rw (ended, t.so_far) (record { line_bytes = refl; words = refl; reply_bytes = t.reply_bytes }))
+        → (at ≡ taken (room - length replies₀) line₀ sheet₀ block) × Left (fed line₀ sheet₀ (take at block)) replies₀
+        line sheet replies
+    stopped at e none = (
+      omega (arith, t.number, within),
+      rw (ended, t.so_far)
+          (record { line_bytes = refl; words = refl; reply_bytes = t.reply_bytes }),
+    )
       where
         count : at ≡ length t.before + 0
         count = omega (arith, within)
@@ -171,10 +195,12 @@ module _ (room : ℕ) (block line₀ sheet₀ replies₀ : List ℕ) where
         ended = (λ i. take (count i) (t.split i)) ∙ take-append-add t.before rest 0 ∙ append-nil t.before
 
     fed_more : (piece : List ℕ) → fed line₀ sheet₀ (t.before ++ piece) ≡ after_replies t.printed (fed line sheet piece)
-    fed_more piece = fed_append line₀ sheet₀ t.before piece ∙ ap (λ (f : Fed). after_replies f.replies (fed f.line f.words piece)) t.so_far
+    fed_more piece = fed_append line₀ sheet₀ t.before piece
+        ∙ ap (λ (f : Fed). after_replies f.replies (fed f.line f.words piece)) t.so_far
 
     -- the rest does not end the line
-    pub kept_rest : longest_reply ≤ room - length replies → Inside rest → 1 ≤ length rest → (line' : List ℕ) → line' ≡ kept line rest
+    pub kept_rest : longest_reply ≤ room - length replies → Inside rest → 1 ≤ length rest → (line' : List ℕ)
+        → line' ≡ kept line rest
         → Taking room block line₀ sheet₀ replies₀ line' sheet replies []
     kept_rest roomy inside some line' e = record {
       before = t.before ++ rest;
@@ -183,30 +209,53 @@ module _ (room : ℕ) (block line₀ sheet₀ replies₀ : List ℕ) where
       so_far = fed_more rest ∙ ap (after_replies t.printed) (piece_fed line sheet rest inside some)
           ∙ (λ i. record { line = sym e i; words = sheet; replies = append-nil t.printed i });
       reply_bytes = t.reply_bytes;
-      number = omega (arith, t.number, length-append t.before rest, taken_piece (room - length replies) line sheet rest inside roomy, no_byte (room - length replies) line' sheet);
+      number = omega (
+        arith,
+        t.number,
+        length-append t.before rest,
+        taken_piece (room - length replies) line sheet rest
+            inside roomy,
+        no_byte (room - length replies) line' sheet,
+      );
     }
 
     -- the line ends with these bytes
-    pub answered_line : longest_reply ≤ room - length replies → (text rest' : List ℕ) → rest ≡ (text ++ (end_of_line ∷ [])) ++ rest' → Inside text
-        → (line' sheet' replies' : List ℕ) → line' ≡ [] → sheet' ≡ (answer (kept line text) sheet).words → replies' ≡ replies ++ (answer (kept line text) sheet).reply
+    pub answered_line : longest_reply ≤ room - length replies → (text rest' : List ℕ)
+        → rest ≡ (text ++ (end_of_line ∷ [])) ++ rest' → Inside text
+        → (line' sheet' replies' : List ℕ) → line' ≡ [] → sheet' ≡ (answer (kept line text) sheet).words
+        → replies' ≡ replies ++ (answer (kept line text) sheet).reply
         → Taking room block line₀ sheet₀ replies₀ line' sheet' replies' rest'
     answered_line roomy text rest' cut inside line' sheet' replies' l s r = record {
       before = t.before ++ (text ++ (end_of_line ∷ []));
-      split = t.split ∙ ap (λ (x : List ℕ). t.before ++ x) cut ∙ sym (append_assoc t.before (text ++ (end_of_line ∷ [])) rest');
+      split = t.split ∙ ap (λ (x : List ℕ). t.before ++ x) cut
+          ∙ sym (append_assoc t.before (text ++ (end_of_line ∷ [])) rest');
       printed = t.printed ++ (answer (kept line text) sheet).reply;
       so_far =
           fed_more (text ++ (end_of_line ∷ [])) ∙ ap (after_replies t.printed) (line_fed line sheet text inside)
-          ∙ (λ i. record { line = sym l i; words = sym s i; replies = t.printed ++ (answer (kept line text) sheet).reply });
-      reply_bytes = r ∙ ap (λ (x : List ℕ). x ++ (answer (kept line text) sheet).reply) t.reply_bytes ∙ append_assoc replies₀ t.printed (answer (kept line text) sheet).reply;
+          ∙ (λ i. record {
+            line = sym l i;
+            words = sym s i;
+            replies = t.printed ++ (answer (kept line text) sheet).reply;
+          });
+      reply_bytes = r ∙ ap (λ (x : List ℕ). x ++ (answer (kept line text) sheet).reply) t.reply_bytes
+          ∙ append_assoc replies₀ t.printed (answer (kept line text) sheet).reply;
       number =
-          t.number ∙ ap (λ (x : List ℕ). length t.before + taken (room - length replies) line sheet x) (cut ∙ append_assoc text (end_of_line ∷ []) rest')
+          t.number ∙ ap (λ (x : List ℕ). length t.before + taken (room - length replies) line sheet x)
+          (cut ∙ append_assoc text (end_of_line ∷ []) rest')
           ∙ ap (λ (k : ℕ). length t.before + k) (taken_line (room - length replies) line sheet text rest' inside roomy)
-          ∙ counted (taken (room - length replies - length (answer (kept line text) sheet).reply) [] (answer (kept line text) sheet).words rest')
+          ∙ counted (taken (room - length replies - length (answer (kept line text) sheet).reply) []
+          (answer (kept line text) sheet).words rest')
           ∙ (λ i. length (t.before ++ (text ++ (end_of_line ∷ []))) + taken (room_left i) (sym l i) (sym s i) rest');
     }
       where
-        counted : (k : ℕ) → length t.before + (suc (length text) + k) ≡ length (t.before ++ (text ++ (end_of_line ∷ []))) + k
-        counted k = omega (arith, length-append t.before (text ++ (end_of_line ∷ [])), length-append text (end_of_line ∷ []))
+        counted : (k : ℕ) → length t.before + (suc (length text) + k) ≡ length
+            (t.before ++ (text ++ (end_of_line ∷ []))) + k
+        counted k = omega (
+          arith,
+          length-append t.before (text ++ (end_of_line ∷ [])),
+          length-append text
+              (end_of_line ∷ []),
+        )
 
         room_left : room - length replies - length (answer (kept line text) sheet).reply ≡ room - length replies'
         room_left = omega (arith, ap length r, length-append replies (answer (kept line text) sheet).reply)

@@ -56,7 +56,8 @@ pub fn take_bytes<const N: usize>(
     ensures bytes { result ≡ taken (N - array_vec_len replies.old) line.old.items sheet.old block.now }
     ensures within { result ≤ length block.now }
     ensures some_byte { array_vec_len replies.old + longest_reply ≤ N → 1 ≤ length block.now → 1 ≤ result }
-    ensures left { Left (fed line.old.items sheet.old (take result block.now)) replies.old.items line.new.items sheet.new replies.new.items }
+    ensures left { Left (fed line.old.items sheet.old (take result block.now)) replies.old.items line.new.items
+        sheet.new replies.new.items }
 {
     let mut rest = block;
     // Not a `for` over the block's `split_inclusive`: tried, the proof did not close in a function with a const

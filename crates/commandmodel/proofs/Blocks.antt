@@ -13,7 +13,8 @@ use Rattle.sheetmodel.specs.Calls.{Outcome}
 use Rattle.commandmodel.specs.Command.{longest_line, fields, of_fields, command}
 use Rattle.commandmodel.specs.Printed.{end_of_line, answered, answer}
 use Rattle.commandmodel.specs.Lines.{in_front, lines, replied, answers, session}
-use Rattle.commandmodel.specs.Blocks.{most_kept, kept, Fed, byte_fed, after_replies, fed, input_ended, blocks_fed, joined, BlockLaw, KeptLaw}
+use Rattle.commandmodel.specs.Blocks.{most_kept, kept, Fed, byte_fed, after_replies, fed, input_ended, blocks_fed}
+use Rattle.commandmodel.specs.Blocks.{joined, BlockLaw, KeptLaw}
 
 -- ---- what is kept of a line
 
@@ -37,25 +38,33 @@ unfolding answer command
 kept_law line w = go (leb (length line) most_kept) refl
   where
     go : (t : Bool) → leb (length line) most_kept ≡ t
-        → answered (cond (leb (length (take most_kept line)) longest_line) (of_fields (fields (take most_kept line))) None) w ≡ answered (cond (leb (length line) longest_line) (of_fields (fields line)) None) w
+        → answered (cond (leb (length (take most_kept line)) longest_line) (of_fields (fields (take most_kept line)))
+        None) w ≡ answered (cond (leb (length line) longest_line) (of_fields (fields line)) None) w
     go true e = rw (take_all most_kept line (leb-true (length line) most_kept e))
     go false e =
         let h : most_kept < length line = leb-false (length line) most_kept e in
         let l : length (take most_kept line) ≡ most_kept = length-take-le most_kept line (omega arith) in
-        rw (lt-leb (length (take most_kept line)) longest_line (omega arith), lt-leb (length line) longest_line (omega arith))
+        rw (
+          lt-leb (length (take most_kept line)) longest_line (omega arith),
+          lt-leb (length line) longest_line
+              (omega arith),
+        )
 
 -- ---- a block after another
 
 before_before : (x y : List ℕ) (f : Fed) → after_replies x (after_replies y f) ≡ after_replies (x ++ y) f
-before_before x y f = ap (λ (r : List ℕ). record { line = f.line; words = f.words; replies = r }) (sym (append_assoc x y f.replies))
+before_before x y f = ap (λ (r : List ℕ). record { line = f.line; words = f.words; replies = r })
+    (sym (append_assoc x y f.replies))
 
-pub fed_append : (l w x y : List ℕ) → fed l w (x ++ y) ≡ after_replies (fed l w x).replies (fed (fed l w x).line (fed l w x).words y)
+pub fed_append : (l w x y : List ℕ)
+    → fed l w (x ++ y) ≡ after_replies (fed l w x).replies (fed (fed l w x).line (fed l w x).words y)
 unfolding fed
 fed_append l w [] y = refl
 fed_append l w (b ∷ bs) y =
     let s : Fed = byte_fed l w b in
     let f : Fed = fed s.line s.words bs in
-    ap (after_replies s.replies) (fed_append s.line s.words bs y) ∙ before_before s.replies f.replies (fed f.line f.words y)
+    ap (after_replies s.replies) (fed_append s.line s.words bs y)
+    ∙ before_before s.replies f.replies (fed f.line f.words y)
 
 -- ---- all bytes at once: u has all bytes of the line that has not ended yet
 
@@ -92,7 +101,8 @@ unfolding input_ended answers
 ended [] w = refl
 ended (b ∷ u) w =
     rw (ne_eqb (length (kept [] (b ∷ u))) 0 (λ q. omega (arith, length-take most_kept (b ∷ u))))
-    (kept_law (b ∷ u) w ∙ ap (λ (r : List ℕ). record { reply = r; words = (answer (b ∷ u) w).words }) (sym (append-nil (answer (b ∷ u) w).reply)))
+    (kept_law (b ∷ u) w ∙ ap (λ (r : List ℕ). record { reply = r; words = (answer (b ∷ u) w).words })
+    (sym (append-nil (answer (b ∷ u) w).reply)))
 
 all_fed : (u w bytes : List ℕ) → finished (fed (kept [] u) w bytes) ≡ answers (begun u (lines bytes)) w
 unfolding fed lines answers
@@ -101,12 +111,18 @@ all_fed u w (b ∷ bs) = go (eqb b end_of_line) (all_fed [] (answer u w).words b
   where
     go : (t : Bool) → finished (fed [] (answer u w).words bs) ≡ answers (begun [] (lines bs)) (answer u w).words
         → finished (fed (kept [] (u ++ (b ∷ []))) w bs) ≡ answers (begun (u ++ (b ∷ [])) (lines bs)) w
-        → finished (let f : Fed = cond t (record { line = []; words = (answer (kept [] u) w).words; replies = (answer (kept [] u) w).reply }) (record { line = kept (kept [] u) (b ∷ []); words = w; replies = [] }) in after_replies f.replies (fed f.line f.words bs)) ≡ answers (begun u (cond t ([] ∷ lines bs) (in_front b (lines bs)))) w
+        → finished (let f : Fed = cond t
+        (record { line = []; words = (answer (kept [] u) w).words; replies = (answer (kept [] u) w).reply })
+        (record { line = kept (kept [] u) (b ∷ []); words = w; replies = [] }) in after_replies f.replies
+        (fed f.line f.words bs)) ≡ answers (begun u (cond t ([] ∷ lines bs) (in_front b (lines bs)))) w
     go true e f =
         rw (kept_law u w)
-        (finished_after (answer u w).reply (fed [] (answer u w).words bs) ∙ ap (replied (answer u w).reply) (e ∙ ap (λ (ls : List (List ℕ)). answers ls (answer u w).words) (begun_nothing (lines bs)))
+        (finished_after (answer u w).reply (fed [] (answer u w).words bs)
+        ∙ ap (replied (answer u w).reply)
+        (e ∙ ap (λ (ls : List (List ℕ)). answers ls (answer u w).words) (begun_nothing (lines bs)))
         ∙ ap (λ (l : List ℕ). replied (answer l w).reply (answers (lines bs) (answer l w).words)) (sym (append-nil u)))
-    go false e f = ap (λ (l : List ℕ). finished (fed l w bs)) (kept_kept [] u (b ∷ [])) ∙ f ∙ ap (λ (ls : List (List ℕ)). answers ls w) (sym (begun_byte u b (lines bs)))
+    go false e f = ap (λ (l : List ℕ). finished (fed l w bs)) (kept_kept [] u (b ∷ [])) ∙ f
+        ∙ ap (λ (ls : List (List ℕ)). answers ls w) (sym (begun_byte u b (lines bs)))
 
 by_blocks : (l w : List ℕ) (blocks : List (List ℕ)) → blocks_fed l w blocks ≡ finished (fed l w (joined blocks))
 unfolding blocks_fed fed
@@ -119,4 +135,5 @@ by_blocks l w (b ∷ bs) =
 
 pub block_law : BlockLaw
 unfolding session
-block_law blocks w = by_blocks [] w blocks ∙ all_fed [] w (joined blocks) ∙ ap (λ (ls : List (List ℕ)). answers ls w) (begun_nothing (lines (joined blocks)))
+block_law blocks w = by_blocks [] w blocks ∙ all_fed [] w (joined blocks)
+    ∙ ap (λ (ls : List (List ℕ)). answers ls w) (begun_nothing (lines (joined blocks)))

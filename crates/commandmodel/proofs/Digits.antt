@@ -3,7 +3,7 @@ use Prim.Native.Nat.{ℕ, zero, suc, ◌+◌, ◌/◌, ◌%◌, ◌^◌, ◌≤�
 use native.Mathlib.Omega.{arith}
 use native.Mathlib.Nat.{pow-suc, pow-zero, pow-le-pow_right}
 use native.Mathlib.Numerals.{add-one}
-use mathlib.Core.Path.{◌≡◌, refl, ap, sym, ◌∙◌}
+use mathlib.Core.Path.{◌≡◌, refl, ap, ◌∙◌}
 use mathlib.Core.Bool.{Bool, true, false, cond, ◌&&◌, and-false}
 use Rattle.std.specs.Prelude.{Option, None, Some, decimal}
 use Rattle.std.proofs.lemmas.Fmt.{decimal_from_appends, length-decimal-le}
@@ -14,7 +14,8 @@ use lib.Dec.{leb, ltb}
 use borrow.Author.Tests.{le-leb, lt-leb, lt-ltb, le-ltb, ltb-true, ltb-false, leb-true}
 use Rattle.plan.proofs.Bools.{and_left, and_right}
 use Rattle.sheetmodel.specs.Layout.{largest}
-use Rattle.commandmodel.specs.Decimal.{most_digits, zero_byte, digit_byte, is_digit, with_digit, with_digits, up_to_largest, number, digits, printed, ReadBack, NumberLaws}
+use Rattle.commandmodel.specs.Decimal.{most_digits, zero_byte, digit_byte, is_digit, with_digit, with_digits}
+use Rattle.commandmodel.specs.Decimal.{up_to_largest, number, digits, printed, ReadBack, NumberLaws}
 
 -- ---- one digit more at the end
 
@@ -23,15 +24,22 @@ then None b = None
 then (Some n) b = Some (with_digit n b)
 
 byte_is_digit : (d : ℕ) → d < 10 → is_digit (digit_byte d) ≡ true
-byte_is_digit d h = rw (le-leb zero_byte (digit_byte d) (omega arith), le-leb (digit_byte d) (zero_byte + 9) (omega arith))
+byte_is_digit d h = rw (
+  le-leb zero_byte (digit_byte d) (omega arith),
+  le-leb (digit_byte d) (zero_byte + 9)
+      (omega arith),
+)
 
-pub one_more : (n : ℕ) (s : List ℕ) (d : ℕ) → d < 10 → with_digits n (s ++ (digit_byte d ∷ [])) ≡ then (with_digits n s) (digit_byte d)
+pub one_more : (n : ℕ) (s : List ℕ) (d : ℕ) → d < 10
+    → with_digits n (s ++ (digit_byte d ∷ [])) ≡ then (with_digits n s) (digit_byte d)
 unfolding with_digits
 one_more n [] d h = rw (byte_is_digit d h)
 one_more n (b ∷ bs) d h = go (is_digit b) (one_more (with_digit n b) bs d h)
   where
-    go : (t : Bool) → with_digits (with_digit n b) (bs ++ (digit_byte d ∷ [])) ≡ then (with_digits (with_digit n b) bs) (digit_byte d)
-        → cond t (with_digits (with_digit n b) (bs ++ (digit_byte d ∷ []))) None ≡ then (cond t (with_digits (with_digit n b) bs) None) (digit_byte d)
+    go : (t : Bool) → with_digits (with_digit n b) (bs ++ (digit_byte d ∷ [])) ≡ then (with_digits (with_digit n b) bs)
+        (digit_byte d)
+        → cond t (with_digits (with_digit n b) (bs ++ (digit_byte d ∷ []))) None ≡ then
+        (cond t (with_digits (with_digit n b) bs) None) (digit_byte d)
     go true e = e
     go false e = refl
 
@@ -94,11 +102,15 @@ printed_decimal n h =
 -- ---- reading a field byte after byte
 
 pub digit_bounds : (b : ℕ) → is_digit b ≡ true → (zero_byte ≤ b) × (b ≤ zero_byte + 9)
-digit_bounds b e =
-    (leb-true zero_byte b (and_left _ (leb b (zero_byte + 9)) e), leb-true b (zero_byte + 9) (and_right (leb zero_byte b) _ e))
+digit_bounds b e = (
+  leb-true zero_byte b (and_left _ (leb b (zero_byte + 9)) e),
+  leb-true b (zero_byte + 9)
+      (and_right (leb zero_byte b) _ e),
+)
 
 module _ (n : ℕ) (s : List ℕ) (i : ℕ) (within : i < length s) where
-  pub next_digit : is_digit (get_or s i 0) ≡ true → with_digits n (drop i s) ≡ with_digits (with_digit n (get_or s i 0)) (drop (i + 1) s)
+  pub next_digit : is_digit (get_or s i 0) ≡ true
+      → with_digits n (drop i s) ≡ with_digits (with_digit n (get_or s i 0)) (drop (i + 1) s)
   unfolding with_digits
   next_digit e = rw (add-one, drop-cons s i 0 within, e)
 
@@ -107,7 +119,8 @@ module _ (n : ℕ) (s : List ℕ) (i : ℕ) (within : i < length s) where
   no_digit e = rw (drop-cons s i 0 within, e)
 
 -- ten digits give less than 10,000,000,000
-pub digit_below : (n i b : ℕ) → n < 10 ^ i → i < 10 → is_digit b ≡ true → (with_digit n b < 10 ^ (i + 1)) × (with_digit n b < 10000000000)
+pub digit_below : (n i b : ℕ) → n < 10 ^ i → i < 10 → is_digit b ≡ true
+    → (with_digit n b < 10 ^ (i + 1)) × (with_digit n b < 10000000000)
 digit_below n i b h ten e =
     let d = digit_bounds b e in
     let p : 10 ^ i ≤ 10 ^ 9 = pow-le-pow_right (omega arith) {i = i} {j = 9} (omega arith) in
@@ -155,7 +168,8 @@ up_to (Some m) n e = go (leb m largest) refl e
 
 pub number_laws : (field : List ℕ) (n : ℕ) → NumberLaws field n
 unfolding number
-number_laws field n = record { some_digit = λ e. (parts e).0; ten_digits = λ e. (parts e).1; bounded = λ e. (parts e).2 }
+number_laws field n = record
+    { some_digit = λ e. (parts e).0; ten_digits = λ e. (parts e).1; bounded = λ e. (parts e).2 }
   where
     fits : Bool
     fits = leb 1 (length field) && leb (length field) most_digits
@@ -169,5 +183,6 @@ number_laws field n = record { some_digit = λ e. (parts e).0; ten_digits = λ e
     )
     go false l f = let z : ◌≡◌ {A = ℕ} 0 1 = cc in absurd (omega arith)
 
-    parts : cond fits (up_to_largest (with_digits 0 field)) None ≡ Some n → (1 ≤ length field) × (length field ≤ most_digits) × (n ≤ largest)
+    parts : cond fits (up_to_largest (with_digits 0 field)) None ≡ Some n
+        → (1 ≤ length field) × (length field ≤ most_digits) × (n ≤ largest)
     parts e = go fits refl e

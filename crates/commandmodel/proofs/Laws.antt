@@ -19,7 +19,9 @@ use Rattle.sheetmodel.specs.Offices.{no_shares}
 use Rattle.commandmodel.specs.Decimal.{digit_byte, digits, most_digits, printed}
 use Rattle.commandmodel.specs.Command as command
 use Rattle.commandmodel.specs.Command.{space}
-use Rattle.commandmodel.specs.Printed.{no_word, ok_word, tally_word, state_word, spaced, end_of_line, longest_reply, reply_line, refusal, done_line, look_line, tally_line, reply_printed, performed, answered, answer}
+use Rattle.commandmodel.specs.Printed.{no_word, ok_word, tally_word, state_word, spaced, end_of_line, longest_reply}
+use Rattle.commandmodel.specs.Printed.{reply_line, refusal, done_line, look_line, tally_line, reply_printed, performed}
+use Rattle.commandmodel.specs.Printed.{answered, answer}
 use Rattle.commandmodel.specs.Laws.{LineLaws}
 
 -- ---- how long a reply is
@@ -29,7 +31,8 @@ unfolding digits
 digits_length zero n = omega arith
 digits_length (suc k) n = go (ltb n 10) (digits_length k (n / 10))
   where
-    go : (t : Bool) → length (digits k (n / 10)) ≤ k → length (cond t (digit_byte n ∷ []) (digits k (n / 10) ++ (digit_byte (n % 10) ∷ []))) ≤ suc k
+    go : (t : Bool) → length (digits k (n / 10)) ≤ k
+        → length (cond t (digit_byte n ∷ []) (digits k (n / 10) ++ (digit_byte (n % 10) ∷ []))) ≤ suc k
     go true h = omega arith
     go false h = omega (arith, length-append (digits k (n / 10)) (digit_byte (n % 10) ∷ []))
 
@@ -43,7 +46,12 @@ spaced_length (n ∷ ns) = omega (arith, spaced_length ns, printed_short n, leng
 
 line_length : (word ns : List ℕ) → length (reply_line word ns) ≤ length word + (11 * length ns + 1)
 unfolding reply_line
-line_length word ns = omega (arith, spaced_length ns, length-append word (spaced ns ++ (end_of_line ∷ [])), length-append (spaced ns) (end_of_line ∷ []))
+line_length word ns = omega (
+  arith,
+  spaced_length ns,
+  length-append word (spaced ns ++ (end_of_line ∷ [])),
+  length-append (spaced ns) (end_of_line ∷ []),
+)
 
 refusal_length : (r : Refusal) → length (refusal r) ≤ longest_reply
 refusal_length r = omega (arith, line_length no_word (number r ∷ []))
@@ -63,7 +71,12 @@ state_length Accept = omega arith
 state_length Reject = omega arith
 
 look_length : (s : Shown) → length (look_line s) ≤ longest_reply
-look_length s = omega (arith, state_length s.answer, line_length (state_word s.answer) (s.units ∷ s.good ∷ s.marginal ∷ s.bad ∷ s.blanks ∷ []))
+look_length s = omega (
+  arith,
+  state_length s.answer,
+  line_length (state_word s.answer)
+      (s.units ∷ s.good ∷ s.marginal ∷ s.bad ∷ s.blanks ∷ []),
+)
 
 tally_length : (t : Totals) → length (tally_line t) ≤ longest_reply
 tally_length t = omega (arith, line_length tally_word (t.accepted ∷ t.rejected ∷ t.good ∷ t.marginal ∷ t.bad ∷ []))

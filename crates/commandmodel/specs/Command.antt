@@ -1,5 +1,6 @@
 -- Which lines are commands, and which commands they are. Document 01, "Program lots".
-use Rattle.std.specs.Prelude.{ℕ, ◌%◌, ◌*◌, Bool, cond, ◌&&◌, List, [], ◌∷◌, length, get_or, leb, eqb, Option, None, Some}
+use Rattle.std.specs.Prelude.{ℕ, ◌%◌, ◌*◌, Bool, cond, ◌&&◌, List, [], ◌∷◌, length, get_or, leb, eqb, Option, None}
+use Rattle.std.specs.Prelude.{Some}
 use Rattle.std.specs.List.{slice_split}
 use Rattle.commandmodel.specs.Decimal.{number}
 

@@ -1,5 +1,5 @@
 // A plan and a list that may be judged.
-ghost use Rattle.std.specs.Prelude.{◌≡◌, true, MatchResult};
+ghost use Rattle.std.specs.Prelude.{◌≡◌, true, IfOk, IfErr};
 ghost use Rattle.plan.specs.Plan.{admitted};
 ghost use Rattle.plan.specs.Sample.{are_classes};
 ghost use Rattle.plan.specs.Refusal.{First};
@@ -30,7 +30,8 @@ fn are_classes(list: &[u8]) -> bool
 
 impl<'a> Case<'a> {
     pub fn new(plan: &'a [u32], list: &'a [u8]) -> Result<Case<'a>, Refusal>
-        ensures { MatchResult result (λ k. (k.plan.now ≡ plan.now) × (k.list.now ≡ list.now)) (λ r. First (refusals plan.now list.now) r) }
+        ensures ok { IfOk result (λ k. (k.plan.now ≡ plan.now) × (k.list.now ≡ list.now)) }
+        ensures err { IfErr result (First (refusals plan.now list.now)) }
     {
         if !plan::admitted(plan) {
             return Err(Refusal::Plan);

@@ -8,14 +8,17 @@ use crate::case::Case;
 use crate::stop::Stop;
 use plan::Counts;
 
-// The event with so many units, by the stage's size and rejection numbers; 0 if there is none.
+// The event with so many units, by the stage's size and rejection numbers; 0 if there is none. A number, since 01 gives
+// the events no names.
 fn event_at(n: u32, r1: u32, r2: u32, c: Counts) -> u32
     requires { (r2 ≤ r1) × (r1 ≤ n) × (n ≤ 1000) × (units c ≤ 1000) }
     ensures { result ≡ event_at n r1 r2 c }
 {
-    let good = c.good;
-    let marginal = c.marginal;
-    let bad = c.bad;
+    let Counts {
+        good,
+        marginal,
+        bad,
+    } = c;
     let limit1 = n - r1 + 1;
     let limit2 = n - r2 + 1;
     if good + marginal == limit2 && limit1 < good {

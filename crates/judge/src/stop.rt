@@ -1,5 +1,4 @@
-// Where the four ways stop along a list of classes. One way is searched, full, and the others follow from
-// it.
+// Where the four ways stop along a list of classes. One way is searched, full, and the others follow from it.
 ghost use Rattle.std.specs.Prelude.{◌≡◌};
 ghost use Rattle.plan.specs.declared.ways.StageWay.TheVariants.{Uncurtailed, Full};
 ghost use Rattle.plan.specs.declared.ways.Way.TheVariants.{Staged, Earliest};
@@ -11,7 +10,8 @@ use crate::run::{count_run, half};
 use plan::{Answer, Counts, StageWay, Way};
 use std::fmt;
 
-// The answer and the units at the stop; GoOn and no units where the way does not stop.
+// The answer and the units at the stop; GoOn and no units where the way does not stop. No Option: 01 gives both numbers
+// of such a way too, state 0 and 0 units.
 #[derive(Clone, Copy)]
 pub struct Stop {
     pub answer: Answer,
@@ -47,8 +47,9 @@ pub fn semi_stop(full: Stop, uncurtailed: Stop) -> Stop
 }
 
 impl Case<'_> {
-    // The units before the stop of a way that goes on after the units `from` of the list and not after `end`
-    // classes. Where it goes on it has gone on all along, so it is asked in the middle.
+    // The units before the stop of a way that goes on after the units `from` of the list and not after `end` classes.
+    // Where it goes on it has gone on all along, so it is asked in the middle. A loop, since each half that is counted
+    // is added to the counts before it.
     fn before_stop(&self, way: Way, from: Counts, end: usize) -> Counts
         requires { Between way self.now.plan.now self.now.list.now from end }
         ensures { BeforeStop way self.now.plan.now self.now.list.now result }
@@ -69,22 +70,25 @@ impl Case<'_> {
         c
     }
 
-    // The units before full's stop. Full is asked at the end of each stage, and among a stage's classes where
-    // it stops there. It stops by the end of the last stage, so no more are read.
+    // The units before full's stop. Full is asked at the end of each stage, and among a stage's classes where it stops
+    // there. It stops by the end of the last stage, so no more are read.
     pub fn before_full_stop(&self) -> Counts
         ensures { BeforeStop (Staged Full) self.now.plan.now self.now.list.now result }
     {
         let way = Way::Staged(StageWay::Full);
         let mut c = Counts::none();
-        let mut i: usize = 0;
-        while i < self.list.len() {
-            let end = (plan::end_from(self.plan, 0, i as u32 + 1) as usize).min(self.list.len());
-            let after = count_run(&self.list[i..end], c);
+        let mut rest = self.list;
+        for stage in self.plan.chunks_exact(5) {
+            if rest.is_empty() {
+                break;
+            }
+            let (part, later) = rest.split_at((stage[0] as usize).min(rest.len()));
+            let after = count_run(part, c);
             if !plan::answer(self.plan, way, after).goes_on() {
-                return self.before_stop(way, c, end);
+                return self.before_stop(way, c, after.units() as usize);
             }
             c = after;
-            i = end;
+            rest = later;
         }
         c
     }
@@ -125,10 +129,11 @@ impl Case<'_> {
         }
     }
 
-    // Earliest stops where full does, with one stage always, or accepts sooner. It does so if the units before
-    // full's stop have fewer bad ones than its limit.
+    // Earliest stops where full does, with one stage always, or accepts sooner. It does so if the units before full's
+    // stop have fewer bad ones than its limit.
     pub fn earliest_stop(&self, full: Stop, before: Counts) -> Stop
-        requires { (full ≡ stop_of (Staged Full) self.now.plan.now self.now.list.now) × BeforeStop (Staged Full) self.now.plan.now self.now.list.now before }
+        requires full_stop { full ≡ stop_of (Staged Full) self.now.plan.now self.now.list.now }
+        requires before_full { BeforeStop (Staged Full) self.now.plan.now self.now.list.now before }
         ensures { result ≡ stop_of Earliest self.now.plan.now self.now.list.now }
     {
         if self.plan.len() == 5 {

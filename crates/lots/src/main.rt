@@ -2,8 +2,6 @@
 // sheet.
 #![tactic(auto)]
 
-ghost use Rattle.std.specs.Prelude.{◌≡◌};
-
 use arrayvec::ArrayVec;
 use command::Line;
 use std::io::{self, Read};
@@ -17,14 +15,6 @@ struct Session {
 }
 
 impl Session {
-    fn new() -> Session {
-        Session {
-            line: Line::new(),
-            sheet: [0; 16384],
-            replies: ArrayVec::new(),
-        }
-    }
-
     // Takes the bytes of a block. The replies are written when all bytes are taken, and when there is no room
     // for one more.
     fn take_block(&mut self, rt: &impl Print, block: &[u8]) -> io::Result<()> {
@@ -55,7 +45,11 @@ impl Session {
 // failed write end the program. Nothing says that the input ends: the reads are counted, up to a number that no
 // run reaches.
 fn answer_input<R: Read>(rt: &impl Print, input: &mut R) -> io::Result<()> {
-    let mut session = Session::new();
+    let mut session = Session {
+        line: Line::new(),
+        sheet: [0; 16384],
+        replies: ArrayVec::new(),
+    };
     let mut block = [0u8; 4096];
     for _ in 0..u64::MAX {
         match input.read(&mut block)? {

@@ -3,7 +3,7 @@ ghost use Rattle.std.specs.Prelude.{◌≡◌, ◌≤◌, ◌∷◌};
 ghost use Rattle.plan.specs.Plan.{stages, admitted, numbered_rules, rules};
 ghost use Rattle.plan.specs.Row.{row_step, row_end, stage_step, last_step, marked_step};
 
-use crate::stage::{Stage, split_first};
+use crate::stage::{Stage, StageEnd, split_first};
 
 // The acceptance and the rejection number of one row: of nongood units, or of bad ones.
 #[derive(Clone, Copy)]
@@ -52,35 +52,37 @@ fn row_end(row: Row, end: u32) -> bool
     row.accept < end && row.accept + 1 == row.reject && row.reject <= end
 }
 
-// The rules on a stage with acceptance numbers, which ends after `end` units, and the next one.
-#[tactic(auto, unfolding(crate::specs::Row::stage_step))]
-fn stage_step(stage: Stage, next: Stage, end: u32, last: bool) -> bool
-    requires { end ≤ 1000 }
-    ensures { result ≡ stage_step stage next end last }
-{
-    1 <= stage.size
-        && stage.accept2 <= stage.accept1
-        && stage.reject2 <= stage.reject1
-        && row_step(nongood_row(stage), nongood_row(next), end, last)
-        && row_step(bad_row(stage), bad_row(next), end, last)
+impl StageEnd {
+    // The rules on a stage with acceptance numbers and the next one, which is the last or not.
+    #[tactic(auto, unfolding(crate::specs::Row::stage_step))]
+    fn stage_step(self, next: Stage, last: bool) -> bool
+        ensures { result ≡ stage_step self.stage next self.end last }
+    {
+        let StageEnd { stage, end } = self;
+        1 <= stage.size
+            && stage.accept2 <= stage.accept1
+            && stage.reject2 <= stage.reject1
+            && row_step(nongood_row(stage), nongood_row(next), end, last)
+            && row_step(bad_row(stage), bad_row(next), end, last)
+    }
+
+    // The rules on the last stage.
+    #[tactic(auto, unfolding(crate::specs::Row::last_step))]
+    fn last_step(self) -> bool
+        ensures { result ≡ last_step self.stage self.end }
+    {
+        let StageEnd { stage, end } = self;
+        1 <= stage.size
+            && stage.reject1 <= 60
+            && stage.accept2 <= stage.accept1
+            && stage.reject2 <= stage.reject1
+            && row_end(nongood_row(stage), end)
+            && row_end(bad_row(stage), end)
+    }
 }
 
-// The rules on the last stage, which ends after `end` units.
-#[tactic(auto, unfolding(crate::specs::Row::last_step))]
-fn last_step(stage: Stage, end: u32) -> bool
-    requires { end ≤ 1000 }
-    ensures { result ≡ last_step stage end }
-{
-    1 <= stage.size
-        && stage.reject1 <= 60
-        && stage.accept2 <= stage.accept1
-        && stage.reject2 <= stage.reject1
-        && row_end(nongood_row(stage), end)
-        && row_end(bad_row(stage), end)
-}
-
-// The rules on stages with acceptance numbers: `first`, which comes after `before` units, and those of `plan` after it. A marked
-// one among them breaks the rule that an acceptance number is below the stage's end.
+// The rules on stages with acceptance numbers: `first`, which comes after `before` units, and those of `plan` after
+// it. A marked one among them breaks the rule that an acceptance number is below the stage's end.
 #[tactic(auto, using(crate::proofs::Words::next_last, crate::proofs::Words::too_many, crate::proofs::Words::at_last, crate::proofs::Words::step_fails, crate::proofs::Words::step_holds))]
 fn numbered_rules(first: Stage, plan: &[u32], before: u32) -> bool
     requires { before ≤ 1000 }
@@ -94,13 +96,17 @@ fn numbered_rules(first: Stage, plan: &[u32], before: u32) -> bool
             return false;
         }
         end += stage.size;
-        if !stage_step(stage, next, end, rest.len() < 5) {
+        if !(StageEnd { stage, end }).stage_step(next, rest.len() < 5) {
             return false;
         }
         stage = next;
         left = rest;
     }
-    1000 - end >= stage.size && last_step(stage, end + stage.size)
+    if 1000 - end < stage.size {
+        return false;
+    }
+    end += stage.size;
+    StageEnd { stage, end }.last_step()
 }
 
 // The rejection numbers of a marked stage, and the next one.

@@ -112,3 +112,11 @@ impl Stage {
         Answer::GoOn
     }
 }
+
+// A stage, and the units after which it ends.
+#[derive(Clone, Copy)]
+pub(crate) struct StageEnd {
+    pub stage: Stage,
+    pub end: u32,
+    ghost few: { end ≤ 1000 },
+}

@@ -8,7 +8,6 @@ mod print;
 
 use arrayvec::ArrayVec;
 use cases::print::bad_line;
-use cases::{Line, Lines};
 use std::io;
 
 // The words of the sheet.
@@ -27,21 +26,7 @@ fn command(rt: &impl Print, line: &[u8], sheet: &mut Sheet) -> io::Result<()> {
     }
 }
 
-// Nothing says that the input ends: the lines are counted, up to a number that no run reaches. A failed
-// write ends the program.
 fn main(rt: HostRuntime) -> io::Result<()> {
-    let mut lines = Lines::new(rt.stdin());
-    let mut line = Line::new();
     let mut sheet = Sheet::new();
-    for _ in 0..u64::MAX {
-        if !lines.read_line(&mut line) {
-            break;
-        }
-        if line.is_full() {
-            bad_line(&rt)?;
-        } else {
-            command(&rt, line.as_slice(), &mut sheet)?;
-        }
-    }
-    Ok(())
+    cases::answer_lines(&rt, rt.stdin(), |line| command(&rt, line, &mut sheet))
 }

@@ -6,7 +6,7 @@ mod chances;
 mod lists;
 mod plans;
 
-use cases::{Line, Lines, print};
+use cases::print;
 use chances::{answer, patterns};
 use std::io;
 
@@ -36,20 +36,6 @@ fn answer_case(rt: &impl Print, line: &[u8]) -> io::Result<()> {
     }
 }
 
-// Nothing says that the input ends: the lines are counted, up to a number that no run reaches. A failed
-// write ends the program.
 fn main(rt: HostRuntime) -> io::Result<()> {
-    let mut lines = Lines::new(rt.stdin());
-    let mut line = Line::new();
-    for _ in 0..u64::MAX {
-        if !lines.read_line(&mut line) {
-            break;
-        }
-        if line.is_full() {
-            print::bad_line(&rt)?;
-        } else {
-            answer_case(&rt, line.as_slice())?;
-        }
-    }
-    Ok(())
+    cases::answer_lines(&rt, rt.stdin(), |line| answer_case(&rt, line))
 }

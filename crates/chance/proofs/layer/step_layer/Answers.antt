@@ -1,19 +1,11 @@
 -- `chance::step_layer` meets its contract: the rows that are not rejected, and those that are. Assumes nothing.
 use Prim.Native.Nat.{min}
 use mathlib.Core.Path.{ap, ◌∙◌}
-use native.Mathlib.Omega.{arith}
 use Rattle.plan.specs.declared.boundaries.Rejection.{Rejection}
-use Rattle.plan.proofs.Promise.{shape}
 use Rattle.chance.specs.Layer.{step_value, SteppedRows}
 use Rattle.chance.proofs.InPlace.{rows_alike, layer_all}
 use Rattle.chance.proofs.layer.step_layer.Goals as goal
 use Rattle.chance.proofs.layer.step_layer.Goals.{in-Same, in-Left}
-
-pub rejection_at-rejection-requires : goal.rejection_at-rejection-requires
-rejection_at-rejection-requires c = omega (arith, shape c.args.plan.now c.requires.ready.suits.admitted)
-
-pub overflow_add-y : goal.overflow_add-y
-overflow_add-y c = omega (arith, c.requires.ready.units, shape c.args.plan.now c.requires.ready.suits.admitted)
 
 pub returns-clause-stepped_layer : goal.returns-clause-stepped_layer
 returns-clause-stepped_layer c =

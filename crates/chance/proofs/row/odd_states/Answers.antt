@@ -16,10 +16,9 @@ pub loop-b-preserved : goal.loop-b-preserved
 loop-b-preserved c =
     let a = c.args in
     let l = c.loop-b in
-    let done = c.state-bad.ensures in
     let some = odd_some a.from l.b l.invariant.1 c.loop-b-test.true in
     let below : a.from ≤ l.b - 1 = omega (arith, some) in (
-      state_more a.t c.requires.valued c.requires.between c.requires.g_bound.0 l.invariant.0 (l.b - 1) (omega (arith, some)) below done.value done.layer_after,
+      state_more a.t c.requires.valued c.requires.between c.requires.g_bound.0 l.invariant.0 (l.b - 1) (omega (arith, some)) below c.state-bad.ensures,
       below,
       odd_less a.from a.to l.b l.invariant.1 l.invariant.0.at_most l.invariant.2 c.loop-b-test.true,
     )
@@ -30,9 +29,3 @@ returns c =
     let l = c.loop-b in
     subst (λ (n : ℕ). FurtherTo a.t.setting a.y a.g a.from a.to a.layer.now l.layer l.bad n)
     (odd_none a.from a.to l.b l.invariant.1 l.invariant.0.at_most l.invariant.2 c.loop-b-test.false) l.invariant.0
-
-pub overflow_sub-b-in-loop-b : goal.overflow_sub-b-in-loop-b
-overflow_sub-b-in-loop-b c = let l = c.loop-b in omega (arith, odd_some c.args.from l.b l.invariant.1 c.loop-b-test.true)
-
-pub loop-b-smaller : goal.loop-b-smaller
-loop-b-smaller c = let l = c.loop-b in omega (arith, odd_some c.args.from l.b l.invariant.1 c.loop-b-test.true)

@@ -30,7 +30,7 @@ state-second-requires c =
     let n = c.requires.g_bound in
     let p = c.loop-b.invariant.0 in
     let four = four_left c.args.from c.loop-b.b c.loop-b-test.true c.loop-b.invariant.2 in
-    let p3 = state_more t v m n p (b + 3) (omega (arith, four)) (omega (arith, four)) c.state-third.ensures.value c.state-third.ensures.layer_after in
+    let p3 = state_more t v m n p (b + 3) (omega (arith, four)) (omega (arith, four)) c.state-third.ensures in
     legible t v m n p3 (b + 2) (omega arith)
 
 pub state-first-requires : goal.state-first-requires
@@ -42,8 +42,8 @@ state-first-requires c =
     let n = c.requires.g_bound in
     let p = c.loop-b.invariant.0 in
     let four = four_left c.args.from c.loop-b.b c.loop-b-test.true c.loop-b.invariant.2 in
-    let p3 = state_more t v m n p (b + 3) (omega (arith, four)) (omega (arith, four)) c.state-third.ensures.value c.state-third.ensures.layer_after in
-    let p2 = state_more t v m n p3 (b + 2) (omega arith) (omega (arith, four)) c.state-second.ensures.value c.state-second.ensures.layer_after in
+    let p3 = state_more t v m n p (b + 3) (omega (arith, four)) (omega (arith, four)) c.state-third.ensures in
+    let p2 = state_more t v m n p3 (b + 2) (omega arith) (omega (arith, four)) c.state-second.ensures in
     legible t v m n p2 (b + 1) (omega arith)
 
 pub state-bad-requires : goal.state-bad-requires
@@ -55,9 +55,9 @@ state-bad-requires c =
     let n = c.requires.g_bound in
     let p = c.loop-b.invariant.0 in
     let four = four_left c.args.from c.loop-b.b c.loop-b-test.true c.loop-b.invariant.2 in
-    let p3 = state_more t v m n p (b + 3) (omega (arith, four)) (omega (arith, four)) c.state-third.ensures.value c.state-third.ensures.layer_after in
-    let p2 = state_more t v m n p3 (b + 2) (omega arith) (omega (arith, four)) c.state-second.ensures.value c.state-second.ensures.layer_after in
-    let p1 = state_more t v m n p2 (b + 1) (omega arith) (omega (arith, four)) c.state-first.ensures.value c.state-first.ensures.layer_after in
+    let p3 = state_more t v m n p (b + 3) (omega (arith, four)) (omega (arith, four)) c.state-third.ensures in
+    let p2 = state_more t v m n p3 (b + 2) (omega arith) (omega (arith, four)) c.state-second.ensures in
+    let p1 = state_more t v m n p2 (b + 1) (omega arith) (omega (arith, four)) c.state-first.ensures in
     legible t v m n p1 b (omega arith)
 
 pub loop-b-preserved : goal.loop-b-preserved
@@ -69,10 +69,10 @@ loop-b-preserved c =
     let n = c.requires.g_bound in
     let p = c.loop-b.invariant.0 in
     let four = four_left c.args.from c.loop-b.b c.loop-b-test.true c.loop-b.invariant.2 in
-    let p3 = state_more t v m n p (b + 3) (omega (arith, four)) (omega (arith, four)) c.state-third.ensures.value c.state-third.ensures.layer_after in
-    let p2 = state_more t v m n p3 (b + 2) (omega arith) (omega (arith, four)) c.state-second.ensures.value c.state-second.ensures.layer_after in
-    let p1 = state_more t v m n p2 (b + 1) (omega arith) (omega (arith, four)) c.state-first.ensures.value c.state-first.ensures.layer_after in (
-      state_more t v m n p1 b (omega arith) (omega (arith, four)) c.state-bad.ensures.value c.state-bad.ensures.layer_after,
+    let p3 = state_more t v m n p (b + 3) (omega (arith, four)) (omega (arith, four)) c.state-third.ensures in
+    let p2 = state_more t v m n p3 (b + 2) (omega arith) (omega (arith, four)) c.state-second.ensures in
+    let p1 = state_more t v m n p2 (b + 1) (omega arith) (omega (arith, four)) c.state-first.ensures in (
+      state_more t v m n p1 b (omega arith) (omega (arith, four)) c.state-bad.ensures,
       omega (arith, four),
       four_less c.args.from c.loop-b.b four c.loop-b.invariant.2,
     )

@@ -1,6 +1,5 @@
 -- `chance::step_row` meets its contract: decided states, then the others. Assumes nothing.
-use native.Mathlib.Omega.{arith}
-use Rattle.chance.proofs.InRow.{further_all, decided_valued, row_all}
+use Rattle.chance.proofs.InRow.{decided_valued, row_all}
 use Rattle.chance.proofs.row.step_row.Goals as goal
 
 pub step_states-requires-clause-valued : goal.step_states-requires-clause-valued
@@ -8,4 +7,4 @@ step_states-requires-clause-valued g c =
     let decided = c.write_decided-undecided in decided_valued (rw c.setting.ensures at decided.ensures) c.requires.valued decided.auto.layer
 
 pub returns : goal.returns
-returns g c = row_all (rw c.setting.ensures at c.write_decided-undecided.ensures) (further_all c.step_states.ensures (omega arith))
+returns g c = row_all (rw c.setting.ensures at c.write_decided-undecided.ensures) c.step_states.ensures

@@ -11,10 +11,12 @@ use Rattle.judge.proofs.case.are_classes.Goals as goal
 pub loop-class-preserved : goal.loop-class-preserved
 loop-class-preserved c =
     let l = c.loop-class in
-    l.invariant ∙ rw c.max-greatest.ensures (class_greatest c.args.list.now l.class-index l.greatest c.loop-class-test.true)
+    l.invariant ∙ rw c.max-greatest.ensures
+    (class_greatest c.args.list.now l.class-index l.greatest c.loop-class-test.true)
 
 pub returns : goal.returns
 returns c =
     let l = c.loop-class in
     let xs = c.args.list.now in
-    sym (l.invariant ∙ rw (drop_of_length-le xs c.loop-class-test.false, classing.none_tested) (and-true (leb l.greatest highest_class)))
+    sym (l.invariant ∙ rw (drop_of_length-le xs c.loop-class-test.false, classing.none_tested) (and-true
+    (leb l.greatest highest_class)))

@@ -25,12 +25,16 @@ module _ (w xs : List ℕ) where
 pub returns-in_err-case : goal.returns-in_err-case
 returns-in_err-case c =
     let p = err_from_is_err_and c.from_residual.result c.from_residual.ensures.1 in
-    rw (p.1, p.2) (refused c.args.plan.now c.args.list.now _ c.in_err-case.ensures)
+    rw (p.1, p.2) (refused c.args.plan.now c.args.list.now _ c.in_err-case.ensures.err)
 
 pub event_of-requires : goal.event_of-requires
 event_of-requires c =
     let k = c.in_ok-case.case in
-    omega (arith, in_plan k.plan.now k.admitted k.list.now _ c.stop_after-full.ensures, (shape k.plan.now k.admitted).thousand_units)
+    omega (
+      arith,
+      in_plan k.plan.now k.admitted k.list.now _ c.stop_after-full.ensures,
+      (shape k.plan.now k.admitted).thousand_units,
+    )
 
 pub returns : goal.returns
 returns c =
@@ -39,6 +43,7 @@ returns c =
     let uncurtailed = c.uncurtailed_stop-uncurtailed in
     let semi = c.semi_stop.ensures ∙ ap (semi_stop full.result) uncurtailed.ensures
     ∙ semi_is k.plan.now k.admitted k.list.now full.result full.ensures k.classes in
-    let same = c.in_ok-case.ensures in
+    let same = c.in_ok-case.ensures.ok in
     rw (c.event_of.ensures, semi, uncurtailed.ensures, c.earliest_stop.ensures, full.ensures)
-    (granted k.plan.now k.list.now k.admitted k.classes ∙ ap (λ (w : List ℕ). judged w k.list.now) same.0 ∙ ap (judged c.args.plan.now) same.1)
+    (granted k.plan.now k.list.now k.admitted k.classes ∙ ap (λ (w : List ℕ). judged w k.list.now) same.0 ∙ ap
+    (judged c.args.plan.now) same.1)

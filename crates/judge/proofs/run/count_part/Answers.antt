@@ -11,13 +11,15 @@ pub loop-class-init : goal.loop-class-init
 loop-class-init c = (sym (ap nongood counting.empty), sym (ap (λ (d : Counts). d.bad) counting.empty))
 
 pub overflow_add-nongood : goal.overflow_add-nongood
-overflow_add-nongood c = let t = next_class c.args.part.now c.loop-class.class-index c.loop-class-test.true in omega arith
+overflow_add-nongood c = let t = next_class c.args.part.now c.loop-class.class-index c.loop-class-test.true in omega
+    arith
 
 pub overflow_add-bad : goal.overflow_add-bad
 overflow_add-bad c = let t = next_class c.args.part.now c.loop-class.class-index c.loop-class-test.true in omega arith
 
 pub loop-class-preserved : goal.loop-class-preserved
-loop-class-preserved c = let t = next_class c.args.part.now c.loop-class.class-index c.loop-class-test.true in omega arith
+loop-class-preserved c = let t = next_class c.args.part.now c.loop-class.class-index c.loop-class-test.true in omega
+    arith
 
 pub overflow_sub-result : goal.overflow_sub-result
 overflow_sub-result c = let u = units_to c.args.part.now c.loop-class.class-index (omega arith) in omega arith
@@ -27,4 +29,5 @@ returns c =
     let l = c.loop-class in
     let xs = c.args.part.now in
     let u = units_to xs l.class-index (omega arith) in
-    same_counts _ (counts (take l.class-index xs)) (omega arith) (omega arith) (omega arith) ∙ ap counts (take_all l.class-index xs c.loop-class-test.false)
+    same_counts _ (counts (take l.class-index xs)) (omega arith) (omega arith) (omega arith) ∙ ap counts
+    (take_all l.class-index xs c.loop-class-test.false)

@@ -19,9 +19,17 @@ loop-part-preserved c =
     let l = c.loop-part in
     let i = l.invariant in
     let s = c.in-Some.ensures.steps in
-    let p = part_counted l.c (chunks_rest l.part-iterator) c.in-Some.part.now (chunks_rest c.next.new.self) _ c.count_part.result c.add-c.result i.few i.counted
+    let p = part_counted l.c (chunks_rest l.part-iterator) c.in-Some.part.now
+    (chunks_rest c.next.new.self) _ c.count_part.result c.add-c.result i.few i.counted
     s.1.0 c.count_part.ensures c.add-c.ensures in
-    record { can_next = omega (arith, i.size, s.0); is_finite = tt; size = s.0 ∙ i.size; few = p.few; counted = p.counted }
+    record {
+      can_next = omega (arith, i.size, s.0);
+      is_finite = tt;
+      size = s.0
+          ∙ i.size;
+      few = p.few;
+      counted = p.counted;
+    }
 
 pub returns : goal.returns
 returns c =
