@@ -1,6 +1,6 @@
 -- What the code's walks over lots and shares need of the words, and what they find. Document 02, change 7.
 use Rattle.std.specs.Prelude.{ℕ, ◌+◌, ◌<◌, ◌≡◌, true, List, length, set, Option, Some, None}
-use Rattle.std.proofs.Math.Option as read_option
+use Rattle.std.proofs.Math.Option as math
 use Rattle.std.proofs.Math.Option.{some}
 use Rattle.std.specs.declared.result.Result.{Result}
 use Rattle.std.specs.declared.result.Result.TheVariants.{Ok, Err}
@@ -28,7 +28,7 @@ abbrev pub with_lot_held : List ℕ → ℕ → ℕ → List ℕ
 with_lot_held h lot n = set h (office lot) (word h (office lot) + (1 + n))
 
 -- where a survey finds the lots intact, h has what each office holds of those read
-abbrev pub Counted : Option Found → read_option.Option (List Lot) → List ℕ → Type 0
+abbrev pub Counted : Option Found → math.Option (List Lot) → List ℕ → Type 0
 Counted None o h = Unit
 Counted (Some f) o h = (ls : List Lot) × (o ≡ some ls) × HeldBy ls h
 

@@ -1,6 +1,6 @@
 -- What the code's walks over a sheet find, by the definitions of Read.antt.
 use Rattle.std.specs.Prelude.{ℕ, zero, suc, ◌+◌, ◌-◌, ◌*◌, ◌≤◌, Bool, true, cond, ◌&&◌, List, [], ◌∷◌, length, leb, ltb, eqb, Option, Some, None}
-use Rattle.std.proofs.Math.Option as read_option
+use Rattle.std.proofs.Math.Option as math
 use Rattle.std.proofs.Math.Option.{none, some}
 use Rattle.plan.specs.declared.counts.Counts.{Counts}
 use Rattle.plan.specs.declared.stage.Stage.{Stage}
@@ -68,7 +68,7 @@ abbrev pub as_chain : List Inspection → Chain
 as_chain is = record { counts = counts (classes is); blanks = blanks (classes is) }
 
 -- the chain that was read, if the test holds of it
-abbrev pub chain_of : (List Inspection → Bool) → read_option.Option (List Inspection) → Option Chain
+abbrev pub chain_of : (List Inspection → Bool) → math.Option (List Inspection) → Option Chain
 chain_of test none = None
 chain_of test (some is) = cond (test is) (Some (as_chain is)) None
 
@@ -124,7 +124,7 @@ newer_part first w lot stop (suc n) at v =
 
 -- ---- the free records: as many as were read
 
-abbrev pub free_of : read_option.Option (List ℕ) → Option ℕ
+abbrev pub free_of : math.Option (List ℕ) → Option ℕ
 free_of none = None
 free_of (some js) = Some (length js)
 
@@ -146,17 +146,17 @@ found_from n f (l ∷ ls) = found_from n (with_lot_found n f l.at l.number (as_c
 abbrev pub nothing_found : Found
 nothing_found = record { used = 0; before = 0; at = 0; chain = no_chain }
 
-abbrev pub lots_survey : List Stage → ℕ → Found → read_option.Option (List Lot) → Option Found
+abbrev pub lots_survey : List Stage → ℕ → Found → math.Option (List Lot) → Option Found
 lots_survey p n f none = None
 lots_survey p n f (some ls) = cond (all_undecided_before p ls) (Some (found_from n f ls)) None
 
 -- ---- the sheet
 
 -- the lot of a number: its record, the record before it, and its chain; record 0 and no inspections where it is not on the sheet
-abbrev pub found : ℕ → read_option.Option Lot → ℕ → ℕ → Found
+abbrev pub found : ℕ → math.Option Lot → ℕ → ℕ → Found
 found n none before used = record { used = used; before = before; at = 0; chain = no_chain }
 found n (some l) before used = record { used = used; before = before; at = l.at; chain = as_chain l.inspections }
 
-abbrev pub survey_of : ℕ → read_option.Option Contents → Option Found
+abbrev pub survey_of : ℕ → math.Option Contents → Option Found
 survey_of n none = None
 survey_of n (some s) = Some (found n (find n s.lots) (last_below n 0 s.lots) (records_of s.lots))

@@ -55,11 +55,7 @@ impl Part {
     fn ended(self) -> Option<Chain>
         ensures { result ≡ cond (eqb self.next 0) (Some self.chain) None }
     {
-        if self.next == 0 {
-            Some(self.chain)
-        } else {
-            None
-        }
+        (self.next == 0).then_some(self.chain)
     }
 }
 
@@ -114,6 +110,7 @@ impl Records<'_> {
     }
 
     // One chain of older inspections, which must be undecided, and newer ones.
+    #[tactic(auto, using(plan::proofs::Promise::shape))]
     fn joined(self, older: Chain, newer: Chain) -> Option<Chain>
         requires { (units older.counts + units newer.counts ≤ 1000) × (older.blanks + newer.blanks ≤ 1000) }
         ensures { result ≡ with_newer newer (if_undecided (stages self.entry.plan.now) (Some older)) }

@@ -9,6 +9,7 @@ use crate::layout::{FIRST_FREE, FREE_TAG};
 use crate::record::{NEXT, Record, VALUE, field_of, put_record};
 
 // The depth of the first free record; 0 if there is none.
+#[tactic(auto, unfolding(sheetmodel::specs::Read::depth))]
 pub fn depth_of(sheet: &[u32]) -> u32
     requires { Freeing sheet.now 1 }
     ensures { result ≡ depth sheet.now }
@@ -20,6 +21,7 @@ pub fn depth_of(sheet: &[u32]) -> u32
     field_of(sheet, free, VALUE)
 }
 
+#[tactic(auto, unfolding(sheetmodel::specs::Calls::free_record))]
 pub fn free_record(sheet: &mut [u32], j: u32)
     requires { Freeing sheet.old 1 × InWords sheet.old j }
     ensures { sheet.new ≡ free_record sheet.old j }

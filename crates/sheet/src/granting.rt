@@ -13,14 +13,12 @@ use crate::record::{NEXT, field_of, record_count};
 use plan::Refusal;
 
 // Is no record free or unused?
+#[tactic(auto, unfolding(sheetmodel::specs::Calls::full))]
 fn is_full(sheet: &[u32]) -> bool
     requires { least_size ≤ length sheet.now }
     ensures { result ≡ full sheet.now }
 {
-    if sheet[FIRST_FREE] != 0 {
-        return false;
-    }
-    record_count(sheet) <= sheet[NEXT_UNUSED] as usize
+    sheet[FIRST_FREE] == 0 && record_count(sheet) <= sheet[NEXT_UNUSED] as usize
 }
 
 impl Holdings<'_> {
@@ -38,6 +36,7 @@ impl Holdings<'_> {
     }
 }
 
+#[tactic(auto, unfolding(sheetmodel::specs::Calls::new_record))]
 pub fn new_record(sheet: &[u32]) -> u32
     requires { least_size ≤ length sheet.now }
     ensures { result ≡ new_record sheet.now }
@@ -50,6 +49,7 @@ pub fn new_record(sheet: &[u32]) -> u32
 }
 
 // Takes the new record off the free chain, or counts it as used.
+#[tactic(auto, unfolding(sheetmodel::specs::Calls::take_record, sheetmodel::specs::Calls::new_record))]
 pub fn take_record(sheet: &mut [u32])
     requires { Room sheet.old }
     ensures { sheet.new ≡ take_record sheet.old }
@@ -59,5 +59,5 @@ pub fn take_record(sheet: &mut [u32])
         sheet[FIRST_FREE] = field_of(sheet, free, NEXT);
         return;
     }
-    sheet[NEXT_UNUSED] = sheet[NEXT_UNUSED] + 1;
+    sheet[NEXT_UNUSED] += 1;
 }

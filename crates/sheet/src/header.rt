@@ -37,6 +37,7 @@ impl<'a> Header<'a> {
     }
 
     // The words of the stages that the plan does not use.
+    #[tactic(auto, using(crate::proofs::HeaderSteps::unused_part))]
     fn unused_stages(self) -> &'a [u32]
         ensures { result.now ≡ unused_stages self.entry.words.now }
     {
@@ -47,6 +48,7 @@ impl<'a> Header<'a> {
 
 // By their sum: a test of each word would leave the loop at the first that is not 0, and so take them one by
 // one.
+#[tactic(auto, using(crate::proofs::WordSums::zero_sum))]
 fn is_zero(words: &[u32]) -> bool
     requires { length words.now ≤ greatest_size }
     ensures { result ≡ all_zero words.now }
@@ -68,6 +70,7 @@ impl Sheet<'_> {
 
     // `first` is the first record after the header. Kept out of the walk over the lots, which is then compiled
     // to fewer instructions a lot: looks were 3 to 5 of 100 faster.
+    #[tactic(auto, using(crate::proofs::HeaderSteps::too_many, crate::proofs::HeaderSteps::few_unused))]
     #[inline(never)]
     pub fn header_ok(self, first: u32) -> bool
         ensures { result ≡ header_ok first self.entry.words.now }

@@ -28,6 +28,7 @@ impl Sheet<'_> {
     }
 
     // Would these?
+    #[tactic(auto, unfolding(sheetmodel::specs::Offices::shares_fit))]
     pub fn given_shares_fit(self, shares: &[u32; 16]) -> bool
         ensures { result ≡ shares_fit (word shares.now) self.entry.words.now }
     {
@@ -47,7 +48,7 @@ pub fn count_lot(held: &mut [u32; 16], lot: u32, inspections: u32)
     ensures { held.new ≡ with_lot_held held.old lot inspections }
 {
     let o = office_of(lot);
-    held[o] = held[o] + (1 + inspections);
+    held[o] += 1 + inspections;
 }
 
 // A sheet that is not corrupt, and what each office holds of it.

@@ -55,6 +55,7 @@ pub fn put_field(sheet: &mut [u32], j: u32, f: usize, v: u32)
     sheet[4 * j as usize + f] = v;
 }
 
+#[tactic(auto, unfolding(sheetmodel::specs::Layout::put_record))]
 pub fn put_record(sheet: &mut [u32], j: u32, r: Record)
     requires { 4 * j + 3 < length sheet.old }
     ensures { sheet.new ≡ put_record sheet.old j r.value r.next r.link r.tag }

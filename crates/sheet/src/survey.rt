@@ -104,7 +104,8 @@ impl Records<'_> {
     fn count_ok(self, used: u32, free: u32) -> bool
         ensures { result ≡ eqb (self.entry.first + (used + free)) (word self.entry.sheet.now next_unused) }
     {
-        self.first as u64 + (used as u64 + free as u64) == self.sheet[NEXT_UNUSED] as u64
+        u64::from(self.first) + (u64::from(used) + u64::from(free))
+            == u64::from(self.sheet[NEXT_UNUSED])
     }
 }
 

@@ -15,16 +15,16 @@ fn lots_total(answer: Answer) -> usize
 {
     match answer {
         Answer::Accept => ACCEPTED_LOTS,
-        Answer::Reject => REJECTED_LOTS,
-        Answer::GoOn => REJECTED_LOTS,
+        Answer::Reject | Answer::GoOn => REJECTED_LOTS,
     }
 }
 
+#[tactic(auto, unfolding(sheetmodel::specs::Calls::add_to))]
 fn add_to(sheet: &mut [u32], i: usize, n: u32)
     requires { (i < length sheet.old) × (word sheet.old i + n ≤ largest) }
     ensures { sheet.new ≡ add_to sheet.old i n }
 {
-    sheet[i] = sheet[i] + n;
+    sheet[i] += n;
 }
 
 // Are as many lots closed as the totals may count?
@@ -32,7 +32,7 @@ pub fn are_full(sheet: &[u32]) -> bool
     requires { least_size ≤ length sheet.now }
     ensures { result ≡ tally_full sheet.now }
 {
-    MOST_CLOSED <= sheet[ACCEPTED_LOTS] as u64 + sheet[REJECTED_LOTS] as u64
+    MOST_CLOSED <= u64::from(sheet[ACCEPTED_LOTS]) + u64::from(sheet[REJECTED_LOTS])
 }
 
 // Counts a lot closed with this answer, and its units.

@@ -11,6 +11,7 @@ use crate::totals::add_totals;
 use plan::{Answer, Counts};
 
 // A new lot after the one in record `before`; the header (0) is before all lots.
+#[tactic(auto, unfolding(sheetmodel::specs::Calls::with_lot))]
 pub fn add_lot(sheet: &mut [u32], number: u32, before: u32)
     requires { Room sheet.old × InWords sheet.old before }
     ensures { sheet.new ≡ with_lot sheet.old number before (new_record sheet.old) }
@@ -29,6 +30,7 @@ pub fn add_lot(sheet: &mut [u32], number: u32, before: u32)
 }
 
 // A new inspection of the lot in record `at`, which has `count` of them.
+#[tactic(auto, unfolding(sheetmodel::specs::Calls::with_inspection))]
 pub fn add_inspection(sheet: &mut [u32], at: u32, count: u32, class: u32)
     requires { Room sheet.old × InWords sheet.old at × (count < largest) }
     ensures { sheet.new ≡ with_inspection sheet.old at count class (new_record sheet.old) }
@@ -47,6 +49,7 @@ pub fn add_inspection(sheet: &mut [u32], at: u32, count: u32, class: u32)
 }
 
 // Takes the newest inspection of the lot in record `at` away.
+#[tactic(auto, using(crate::proofs::Unlinked::unlinked_newest), unfolding(sheetmodel::specs::Calls::without_newest))]
 pub fn remove_newest(sheet: &mut [u32], at: u32)
     requires { Striking sheet.old at }
     ensures { sheet.new ≡ without_newest sheet.old at (newest sheet.old at) }
