@@ -1,5 +1,7 @@
 // A row of a layer, the states of g nongood units, in place: from the values at y + 1 units to those at y. The
 // state of g nongood and b bad units stands at g * r2 + b, for g below r1 and b below r2.
+// The layer and a place in it go from function to function: a struct with the lent layer would be made anew for each
+// row, and be no plainer.
 ghost use Rattle.std.specs.Prelude.{◌≡◌, ◌+◌, ◌-◌, ◌*◌, ◌%◌, ◌≤◌, ◌<◌, length};
 ghost use Rattle.chance.specs.Layer.{word, Valued, Between, Weighs, Filled, Further, FurtherTo, Decided, SteppedRow};
 ghost use Rattle.chance.specs.Constant.{Legible, SteppedState};

@@ -19,6 +19,7 @@ impl Session {
     // for one more.
     fn take_block(&mut self, rt: &impl Print, block: &[u8]) -> io::Result<()> {
         let mut rest = block;
+        // Not a `for`: how many bytes are taken depends on the room for replies.
         while !rest.is_empty() {
             self.replies.clear();
             let taken = command::take_bytes(

@@ -12,6 +12,7 @@ struct Row {
     reject: u32,
 }
 
+// Two functions, since no parameter picks a field.
 fn nongood_row(stage: Stage) -> Row
     ensures { (result.accept ≡ stage.accept1) × (result.reject ≡ stage.reject1) }
 {
@@ -30,7 +31,7 @@ fn bad_row(stage: Stage) -> Row
     }
 }
 
-// One row at a stage that ends after `end` units; the next stage is the last or not.
+// One row at a stage that ends after `end` units; the next stage is the last or not, a bool as the rule has it.
 #[tactic(auto, unfolding(crate::specs::Row::row_step))]
 fn row_step(row: Row, next: Row, end: u32, last: bool) -> bool
     requires { end ≤ 1000 }
@@ -128,6 +129,7 @@ fn rules(first: Stage, plan: &[u32]) -> bool
     let mut stage = first;
     let mut left = plan;
     let mut before = 0;
+    // Not a `for`: how many stages are marked is found stage by stage.
     while stage.marked() {
         let Some((next, rest)) = split_first(left) else {
             return false;

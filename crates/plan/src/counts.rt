@@ -14,6 +14,8 @@ pub struct Counts {
     pub bad: u32,
 }
 
+// That there are at most 1,000 units is a clause of those that add them up, and not of the type: `with` serves any
+// number.
 impl Counts {
     pub fn none() -> Counts
         ensures { result ≡ no_units }

@@ -10,7 +10,8 @@ use crate::counts::Counts;
 // As both acceptance numbers of a stage: acceptance is not permitted there. Document 02, change 1.
 const NOT_PERMITTED: u32 = 4294967295;
 
-// What a stopping rule answers to the units so far.
+// What a stopping rule answers to the units so far. Document 01 has three states, so that this is no Option of a
+// verdict.
 #[derive(Clone, Copy, Debug, PartialEq, Eq)]
 pub enum Answer {
     GoOn,
