@@ -1,6 +1,6 @@
 // What the calls answer. Document 01, "Chance of acceptance"; document 02, changes 2 and 6.
 
-#[derive(Clone, Copy)]
+#[derive(Clone, Copy, Debug, PartialEq)]
 pub struct Interval<T> {
     pub low: T,
     pub high: T,

@@ -2,6 +2,7 @@
 // on that of a lot of known size (document 02, change 2), and on the expected number of units (change 6).
 // They come by backward induction over layers: a layer has the value of each state that so many units can reach,
 // and stands in a run of words.
+// `as` stands where std has no From, to and from usize, and where a `from` would be a call more in a proof of sums.
 #![tactic(auto)]
 
 mod acceptance;

@@ -8,7 +8,7 @@ use plan::{Refusal, StageWay, Way};
 use std::fmt;
 
 // The stops of the four ways, and the event at full's stop.
-#[derive(Clone, Copy)]
+#[derive(Clone, Copy, Debug, PartialEq, Eq)]
 pub struct Judgement {
     pub uncurtailed: Stop,
     pub semi: Stop,

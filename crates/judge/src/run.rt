@@ -30,9 +30,9 @@ fn count_part(part: &[u8]) -> Counts
         bad += (*class == 2) as u8;
     }
     Counts {
-        good: part.len() as u32 - nongood as u32,
-        marginal: (nongood - bad) as u32,
-        bad: bad as u32,
+        good: part.len() as u32 - u32::from(nongood),
+        marginal: u32::from(nongood - bad),
+        bad: u32::from(bad),
     }
 }
 

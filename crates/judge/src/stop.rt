@@ -12,7 +12,7 @@ use std::fmt;
 
 // The answer and the units at the stop; GoOn and no units where the way does not stop. No Option: 01 gives both numbers
 // of such a way too, state 0 and 0 units.
-#[derive(Clone, Copy)]
+#[derive(Clone, Copy, Debug, PartialEq, Eq)]
 pub struct Stop {
     pub answer: Answer,
     pub counts: Counts,

@@ -1,5 +1,6 @@
 // A sheet: many lots in inspection on one borrowed run of words. Document 01, "Sheet". What the calls do is defined in crate
 // `sheetmodel`.
+// `as` stands where std has no From, to and from usize, and where a `from` would be a call more in a proof of sums.
 #![tactic(auto)]
 
 mod chain;
