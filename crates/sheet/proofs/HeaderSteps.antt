@@ -36,10 +36,7 @@ module _ (w : List ℕ) (low : least_size ≤ length w) where
   pub few_stages : admitted (plan_words w) ≡ true → word w stage_count ≤ 7
   few_stages e = elim (dec_lt 7 (word w stage_count)) [ yes l ↦ absurd (true≢false (sym e ∙ too_many l)) | no l ↦ omega arith ]
 
-  -- the parts of the sheet that the code hands on: the plan, and the unused stages after it
-  pub plan_part : (end : ℕ) → end ≡ plan_start + 5 * word w stage_count → take (end - plan_start) (drop plan_start w) ≡ plan_words w
-  plan_part end e = let n : end - plan_start ≡ 5 * word w stage_count = omega arith in rw n
-
+  -- the unused stages after the plan, as the code hands them on
   pub unused_part : (end : ℕ) → end ≡ plan_start + 5 * word w stage_count → take (accepted_lots - end) (drop end w) ≡ unused_stages w
   unused_part end e =
       let k : ℕ = 5 * word w stage_count in

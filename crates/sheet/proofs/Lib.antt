@@ -9,7 +9,6 @@ mod LotSteps
 mod FreeSteps
 mod SurveySteps
 -- of the code that writes one
-mod NewRecord
 mod FreedChain
 mod TotalsKept
 mod Unlinked

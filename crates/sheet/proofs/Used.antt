@@ -1,23 +1,16 @@
--- A record in use lies within the sheet; what is known of a record that was tested. Assumes nothing.
+-- What is known of a record that was tested. Assumes nothing.
 use Rattle.plan.proofs.Bools.{and_left, and_right}
-use Prim.Native.Nat.{ℕ, ◌+◌, ◌*◌, ◌≤◌, ◌<◌}
+use Prim.Native.Nat.{ℕ, ◌≤◌}
 use mathlib.Core.Path.{◌≡◌, refl, sym}
 use mathlib.Core.Bool.{Bool, true, false}
 use mathlib.Core.List.{List}
-use native.Mathlib.Omega.{arith}
-use lib.ListN.{length}
-use lib.Dec.{leb, ltb}
-use borrow.Author.Tests.{leb-true, ltb-true}
+use borrow.Author.Tests.{leb-true}
 use Rattle.plan.specs.Sample.{highest_class}
-use Rattle.sheetmodel.specs.Layout.{word, field, next_unused}
-use Rattle.sheetmodel.specs.Read.{in_use}
+use Rattle.sheetmodel.specs.Layout.{field}
 use Rattle.sheet.specs.declared.record.Record.{Record}
 use Rattle.std.specs.Prelude.{Some, None}
 use Rattle.std.proofs.lemmas.Option.{cond_some}
-use Rattle.sheet.specs.Survey.{Sized, record_at, record_if, is_inspection}
-
-pub record_within : (first : ℕ) (w : List ℕ) (at : ℕ) → Sized w → in_use first w at ≡ true → 4 * at + 3 < length w
-record_within first w at s e = omega (arith, s.room, ltb-true at (word w next_unused) (and_right (leb first at) (ltb at (word w next_unused)) e))
+use Rattle.sheet.specs.Survey.{record_at, record_if, is_inspection}
 
 -- a record that was found passed the test, and is the one in the words; none was found where the test failed
 pub passed : (test : Bool) (w : List ℕ) (at : ℕ) (r : Record) → Some r ≡ record_if test w at → (test ≡ true) × (record_at w at ≡ r)
