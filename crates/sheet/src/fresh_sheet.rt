@@ -26,6 +26,7 @@ fn put_header(sheet: &mut [u32], plan: &[u32], shares: &[u32; 16])
     sheet[SHARES_START..SHARES_START + OFFICES].copy_from_slice(shares);
 }
 
+#[tactic(auto, using(crate::proofs::FreshOutcome::wrong_size, crate::proofs::FreshOutcome::not_admitted, crate::proofs::FreshOutcome::no_fit, crate::proofs::FreshOutcome::granted))]
 pub fn fresh(sheet: &mut [u32], plan: &[u32], shares: &[u32; 16]) -> Result<(), Refusal>
     ensures value { result ≡ (fresh plan.now shares.now sheet.old).reply }
     ensures sheet_after { sheet.new ≡ (fresh plan.now shares.now sheet.old).words }

@@ -14,6 +14,7 @@ use crate::survey::Found;
 use plan::Refusal;
 
 // Rows 1 and 3; `held` takes what each office holds.
+#[tactic(auto, using(crate::proofs::LocatedFacts::wrong_size, crate::proofs::LocatedFacts::too_many_shares, crate::proofs::LocatedFacts::by_survey, crate::proofs::LocatedFacts::counted_by_survey))]
 pub fn locate_and_count(sheet: &[u32], lot: u32, held: &mut [u32; 16]) -> Result<Found, Refusal>
     requires { held.old ≡ replicate offices 0 }
     ensures value { result ≡ located lot sheet.now [] }

@@ -62,6 +62,7 @@ pub struct Holdings<'a> {
 
 impl Holdings<'_> {
     // What the offices lack to reach their shares, added up.
+    #[tactic(auto, using(crate::proofs::WordSums::one_more, crate::proofs::WordSums::no_words))]
     fn all_lacking(self) -> u64
         ensures { result ≡ added_up offices (λ o. share self.entry.sheet.now o - word self.entry.held.now o) }
     {
@@ -73,6 +74,7 @@ impl Holdings<'_> {
     }
 
     // The records free and unused.
+    #[tactic(auto, using(crate::proofs::OfficeSteps::sized_its, crate::proofs::OfficeSteps::can_free, crate::proofs::OfficeSteps::depth_is))]
     fn spare(self) -> u64
         ensures { result ≡ spare self.entry.sheet.now (contents self.entry.sheet.now) }
     {
@@ -82,6 +84,7 @@ impl Holdings<'_> {
 
     // May the office of a lot take a record? An office that has its share lacks nothing, so that all lack what
     // the others lack.
+    #[tactic(auto, using(crate::proofs::OfficeSteps::below_share, crate::proofs::OfficeSteps::by_spare))]
     pub fn may_take(self, lot: u32) -> bool
         ensures { result ≡ may_take self.entry.sheet.now (contents self.entry.sheet.now) (office lot) }
     {

@@ -62,6 +62,7 @@ pub fn remove_newest(sheet: &mut [u32], at: u32)
 
 // Adds the lot in record `at` to the totals, and frees its inspections and then it. Its chain has as
 // many inspections as it has units.
+#[tactic(auto, using(crate::proofs::Unlinked::unlinked_lot, crate::proofs::Unlinked::chain_kept, crate::proofs::Unlinked::still_closing, crate::proofs::Unlinked::closed_words))]
 pub fn remove_lot(sheet: &mut [u32], at: u32, before: u32, answer: Answer, c: Counts)
     requires { Closing sheet.old at before answer c }
     ensures { sheet.new ≡ without_lot sheet.old before (lot_at sheet.old at) }
