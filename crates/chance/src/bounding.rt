@@ -71,6 +71,7 @@ pub fn fitted(
 }
 
 // The same with constant weights, or the refusal.
+#[tactic(auto, using(crate::proofs::Replies::first_row, crate::proofs::Replies::own_row, crate::proofs::Replies::last_row, crate::proofs::Replies::too_heavy, crate::proofs::Replies::some_weights, crate::proofs::Replies::kept))]
 pub fn weighted(
     plan: &[u32],
     weights: Weights,
