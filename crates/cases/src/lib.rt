@@ -14,7 +14,7 @@ pub use lines::answer_lines;
 // The numbers of a line.
 pub type Words = ArrayVec<u32, 128>;
 
-// The value of a decimal digit.
+// The value of a decimal digit; std's `to_digit` is of a char.
 fn digit(byte: u8) -> Option<u8> {
     match byte {
         b'0'..=b'9' => Some(byte - b'0'),
@@ -22,7 +22,7 @@ fn digit(byte: u8) -> Option<u8> {
     }
 }
 
-// The decimal number that a word is. It has at least one digit.
+// The decimal number that a word is. It has at least one digit, and not at most 10, as `command`'s number has.
 pub fn number(word: &[u8]) -> Option<u32> {
     let mut value: Option<u32> = None;
     for byte in word {

@@ -10,6 +10,7 @@ use std::io::{Read, Write};
 type Line = ArrayVec<u8, 4096>;
 
 // The bytes of the block from `at` to `count` are not yet taken.
+// The block stands here, since std's BufReader takes one from an allocator, and the programs use no heap.
 #[derive(Drop)]
 struct Lines<R> {
     reader: R,

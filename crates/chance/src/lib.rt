@@ -2,7 +2,9 @@
 // on that of a lot of known size (document 02, change 2), and on the expected number of units (change 6).
 // They come by backward induction over layers: a layer has the value of each state that so many units can reach,
 // and stands in a run of words.
-// `as` stands where std has no From, to and from usize, and where a `from` would be a call more in a proof of sums.
+// `as` stands where std has no From, to and from usize, and where, tried, a proof of sums did not close by `from`.
+// That a plan is admitted is a clause: a type for it would hold one slice, and be no plainer. Each call takes three
+// numbers, for the weights or for a lot, as document 01 and the C interface have them.
 #![tactic(auto)]
 
 mod acceptance;

@@ -10,6 +10,7 @@ use crate::setting::{Kind, Worth};
 use plan::Refusal;
 
 // Low and high, or the refusal, for a lot with so many units of each class. The scratch is 01's bench.
+// Not one with `weighted`: the sum has another least and another refusal, which would both be parameters.
 pub fn lot_chance(
     plan: &[u32],
     good: u32,

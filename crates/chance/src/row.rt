@@ -124,6 +124,7 @@ fn step_fours(layer: &mut [u64], t: Constant, y: usize, g: usize, from: usize, t
 }
 
 // The states of a row where inspection goes on, by their bad units: from `from` on and below `to`.
+// The ends go apart to the walks: a walk's contract names both, and `odd_states` gives back another upper one.
 #[derive(Clone, Copy)]
 pub struct Undecided {
     pub from: usize,

@@ -1,6 +1,8 @@
 // The calls for C, and for every language that calls C: a static library. Each returns 0 where the call is
 // granted, else the number of document 01's table "Refused". A refusal leaves `out` alone. A slice passes as
 // a pointer and a length, and an array as a pointer.
+// C calls each function by a name of its own, so that calls which differ in one name stay apart here. Each call of
+// more than two numbers writes its own array: which number is where is all that it says.
 #![tactic(auto)]
 
 mod chances;

@@ -10,6 +10,7 @@ use plan::Counts;
 
 // The event with so many units, by the stage's size and rejection numbers; 0 if there is none. A number, since 01 gives
 // the events no names.
+// No `Stage` is passed, since the acceptance numbers have no say.
 fn event_at(n: u32, r1: u32, r2: u32, c: Counts) -> u32
     requires { (r2 ≤ r1) × (r1 ≤ n) × (n ≤ 1000) × (units c ≤ 1000) }
     ensures { result ≡ event_at n r1 r2 c }

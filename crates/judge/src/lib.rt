@@ -1,6 +1,6 @@
 // Lists of classes judged four ways, and the event. Document 01, "Four ways to stop" and "Lists, events,
 // estimates".
-// `as` stands where std has no From, to and from usize, and where a `from` would be a call more in a proof of sums.
+// `as` stands where std has no From, to and from usize, and where, tried, a proof of sums did not close by `from`.
 #![tactic(auto)]
 
 mod case;

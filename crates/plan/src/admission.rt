@@ -12,7 +12,7 @@ struct Row {
     reject: u32,
 }
 
-// Two functions, since no parameter picks a field.
+// Two functions: the fields are the plan's words, as document 01 lists them, and no parameter picks a field.
 fn nongood_row(stage: Stage) -> Row
     ensures { (result.accept ≡ stage.accept1) × (result.reject ≡ stage.reject1) }
 {

@@ -36,6 +36,7 @@ impl Counts {
     }
 
     // n units more of one class. Every class but good (0) and bad (2) counts as marginal.
+    // A class is a number, as document 01, C and a sheet's words have it: an enum would be made of it and undone.
     #[tactic(auto, using(crate::proofs::Counting::add_good, crate::proofs::Counting::add_bad, crate::proofs::Counting::add_marginal))]
     pub fn with(self, class: u32, n: u32) -> Counts
         requires { units self + n ≤ 4294967295 }

@@ -48,6 +48,7 @@ pub enum Refusal {
 }
 
 impl Refusal {
+    // A method, and no From: it has a contract by the definition, and says which number of a refusal it is.
     // Its number in the table.
     pub fn number(self) -> u32
         ensures { result ≡ number self }

@@ -47,6 +47,7 @@ fn ends_beside(plan: &[u32], before: u32, y: u32) -> Ends
     Ends { below, from: below }
 }
 
+// Two functions: each caller asks for one of the two ends, and would take a pair apart.
 pub fn end_below(plan: &[u32], before: u32, y: u32) -> u32
     requires { before + total (stages plan.now) ≤ 1000 }
     ensures { result ≡ end_below before (stages plan.now) y }

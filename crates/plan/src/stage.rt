@@ -20,6 +20,7 @@ pub enum Answer {
 }
 
 impl Answer {
+    // A method, and no From: it has a contract by the definition, and says which number of a state it is.
     // The number of the state: 0 undecided, 1 accepted, 2 rejected.
     pub fn number(self) -> u32
         ensures { result ≡ state self }
@@ -65,6 +66,7 @@ impl From<[u32; 5]> for Stage {
 }
 
 // The first stage of a run of words, and the words after it. A stage that lacks words is none.
+// Loops go by it with `while let`: what is left and the units before it come along, as in the definitions.
 pub(crate) fn split_first(plan: &[u32]) -> Option<(Stage, &[u32])>
     ensures { MatchOption result (stages plan.now ≡ []) (λ p. FirstAndRest plan.now p.0 p.1.now) }
 {

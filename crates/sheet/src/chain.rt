@@ -60,6 +60,7 @@ impl Part {
 }
 
 impl Records<'_> {
+    // Apart from `free` and `lot`: each tests other words of its record, and a closure for it would be no plainer.
     // The record `at`, if it is the inspection of the lot with this serial.
     fn inspection(self, lot: u32, serial: u32, at: usize) -> Option<Record>
         ensures { result ≡ record_if (is_inspection self.entry.first self.entry.sheet.now lot serial at) self.entry.sheet.now at }

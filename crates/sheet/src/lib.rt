@@ -1,6 +1,6 @@
-// A sheet: many lots in inspection on one borrowed run of words. Document 01, "Sheet". What the calls do is defined in crate
-// `sheetmodel`.
-// `as` stands where std has no From, to and from usize, and where a `from` would be a call more in a proof of sums.
+// A sheet: many lots in inspection on one borrowed run of words. Document 01, "Sheet". What the calls do is
+// defined in crate `sheetmodel`. The calls take `sheet` and `lot` apart, as document 01 and the C interface have them.
+// `as` stands where std has no From, to and from usize, and where, tried, a proof of sums did not close by `from`.
 #![tactic(auto)]
 
 mod chain;

@@ -1,6 +1,6 @@
 // The first rows of the table for calls on a sheet: its size, its contents, and the lot of a number.
-// `held` is the caller's array, 0 before, so that no array is copied. The calls that need no record have it made here:
-// each of the two questions stands once, and once more without it.
+// `held` is the caller's array, 0 before, so that no array is copied. For the calls that need no record, `locate`
+// and `locate_lot` make it.
 ghost use Rattle.std.specs.Prelude.{◌≡◌, [], replicate};
 ghost use Rattle.sheetmodel.specs.Layout.{offices};
 ghost use Rattle.sheetmodel.specs.Rows.{lot_rows};

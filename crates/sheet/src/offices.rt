@@ -67,6 +67,7 @@ impl Holdings<'_> {
         ensures { result ≡ added_up offices (λ o. share self.entry.sheet.now o - word self.entry.held.now o) }
     {
         let mut sum: u64 = 0;
+        // By index, since the shares are words of the header and `held` an array: office o has one place in both.
         for o in 0..OFFICES {
             sum += u64::from(self.sheet[SHARES_START + o].saturating_sub(self.held[o]));
         }

@@ -1,10 +1,11 @@
-// Records of a sheet, four words each, by their index. Document 01, "Sheet".
+// Records of a sheet, four words each, by their index. Document 01, "Sheet" and "Forms for parts of the code".
 ghost use Rattle.std.specs.Prelude.{◌≡◌, ◌+◌, ◌*◌, ◌<◌, length};
 ghost use Rattle.sheetmodel.specs.Layout.{records, field, put, put_record};
 ghost use Rattle.sheet.specs.Survey.{record_at};
 
 // The four words of a record: of a lot number, next lot, newest inspection and 0; of an inspection
 // class, next older, its lot's record and serial; of a free record depth, next free, 0 and a tag.
+// Zero in `next` or `link` is no record: document 01 ends a chain by it, so these words are no Option.
 #[derive(Clone, Copy)]
 pub struct Record {
     pub value: u32,
@@ -29,6 +30,7 @@ pub fn record_count(sheet: &[u32]) -> usize
     sheet.len() / 4
 }
 
+// One word, by its place in the record: a whole `Record` read and put back for it would be no plainer.
 pub fn field_of(sheet: &[u32], j: u32, f: usize) -> u32
     requires { 4 * j + f < length sheet.now }
     ensures { result ≡ field sheet.now j f }

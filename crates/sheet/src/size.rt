@@ -10,8 +10,8 @@ pub fn size_ok(sheet: &[u32]) -> bool
     LEAST_SIZE <= sheet.len() && sheet.len() <= GREATEST_SIZE
 }
 
-// As many words as a sheet may have. A function that writes, or reads a word between two writes, asks for the
-// size itself: behind a `&mut` no `Sheet` lasts over a write.
+// As many words as a sheet may have. A function that writes, or is asked between writes, or has the words from
+// another struct, asks for the size itself: a `Sheet` made for one question would be no plainer.
 #[derive(Clone, Copy)]
 pub struct Sheet<'a> {
     pub words: &'a [u32],

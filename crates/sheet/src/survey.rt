@@ -19,6 +19,7 @@ use crate::size::Sheet;
 // What is found for a lot's number: its record and its chain, 0 and no units where it is not on the
 // sheet; the record before it, whose next lot it is or would be; and the records that all lots and
 // their inspections use.
+// 0 is no record in a sheet's words (document 01), and `before` is 0 for the header: so `at` is no Option.
 #[derive(Clone, Copy)]
 pub struct Found {
     pub used: u32,
@@ -69,6 +70,7 @@ impl Records<'_> {
         }
     }
 
+    // All lots are walked, and none is searched for: a call tests the whole sheet (document 01, refusal 3).
     // The lots and their inspections. `held` takes what each office holds of them.
     fn lots(self, sought: u32, held: &mut [u32; 16]) -> Option<Found>
         requires { held.old ≡ replicate offices 0 }

@@ -9,7 +9,7 @@ use crate::layout::{
 };
 use plan::{Answer, Counts};
 
-// The total that counts a lot closed with this answer. An undecided lot is never closed.
+// The total that counts a lot closed with this answer, by its place in the header. An undecided lot is never closed.
 fn lots_total(answer: Answer) -> usize
     ensures { result ≡ lots_total answer }
 {

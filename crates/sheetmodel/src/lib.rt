@@ -1,4 +1,5 @@
-// What a sheet is and what its calls do, as definitions, and the theorem about every list of calls. The code is in crate `sheet`.
+// What a sheet is and what its calls do, as definitions, and the theorem about every list of calls. The code is
+// in crate `sheet`.
 #![tactic(auto)]
 
 mod reply;

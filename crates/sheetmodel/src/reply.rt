@@ -1,4 +1,5 @@
-// What granted calls give. specs/Reply.antt has document 01's number and values for each case.
+// What granted calls give. specs/Reply.antt has document 01's numbers for each.
+// The numbers stand one by one in document 01's order, as C and the programs give them: so no `Counts` within.
 use plan::Answer;
 
 // What a lot shows. The blanks are among the marginal units.

@@ -1,5 +1,6 @@
 // Answers each command line of standard input by one line on standard output. The commands work on one sheet;
 // tests/reference/lines/sheet_lines.rs describes them. A line's first byte is the command's kind.
+// `as usize` is of a u32, which has no From.
 #![tactic(auto)]
 
 mod calls;

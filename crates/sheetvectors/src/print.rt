@@ -4,6 +4,7 @@ use sheet::{Estimate, Shown, Totals};
 use std::io;
 
 // What a granted call gives.
+// Not `Display`: `()` has none, and a lot's state as a number is of the test format alone.
 pub trait Granted {
     fn print(self, rt: &impl Print) -> io::Result<()>;
 }

@@ -1,5 +1,5 @@
-// Cases on the chance of acceptance and on the expected number of units: three weights, or the numbers of units of a lot
-// by class, the number of words of scratch, and the plan.
+// Cases on the chance of acceptance and on the expected number of units: three weights, or the numbers of units
+// of a lot by class, the number of words of scratch, and the plan.
 ghost use Rattle.std.specs.Prelude.{ℕ};
 ghost use Rattle.chance.specs.Bounds.{Bounds};
 ghost use Rattle.chance.specs.Reply.{ExactFloats};

@@ -1,6 +1,7 @@
 // Answers each case line of standard input by one line on standard output. A line's first byte is its kind, a letter
 // of the format of the cases. A new kind needs an arm in `answer_case` and a function on the rest of the line, in its
 // own module.
+// `as usize` is of a u32, which has no From.
 #![tactic(auto)]
 
 mod chances;
