@@ -199,6 +199,7 @@ impl Records<'_> {
     }
 
     // Is the chain of free records from `at` on whole, of this depth?
+    #[tactic(auto, using(crate::proofs::Used::passed, crate::proofs::Used::failed, crate::proofs::FreeSteps::ended, crate::proofs::FreeSteps::not_free, crate::proofs::FreeSteps::next_free))]
     fn is_free_chain(self, depth: u32, at: usize) -> bool
         ensures { result ≡ is_some (read_free self.entry.first self.entry.sheet.now depth at) }
     {
@@ -213,6 +214,7 @@ impl Records<'_> {
     }
 
     // The number of free records, if their chain is whole.
+    #[tactic(auto, using(crate::proofs::FreeSteps::no_free, crate::proofs::FreeSteps::depth_is, crate::proofs::FreeSteps::cut, crate::proofs::FreeSteps::whole_of, crate::proofs::FreeSteps::not_used))]
     pub fn free_chain(self) -> Option<u32>
         ensures { result ≡ free_of (read_free self.entry.first self.entry.sheet.now (depth self.entry.sheet.now) (word self.entry.sheet.now first_free)) }
     {
