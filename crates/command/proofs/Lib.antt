@@ -2,4 +2,5 @@
 pub mod Kept
 pub mod Letters
 pub mod Numbers
+pub mod OneField
 pub mod Pieces

@@ -1,5 +1,5 @@
 // Which plans are admitted. Document 01, "Plan"; document 02, change 1.
-ghost use Rattle.std.specs.Prelude.{◌≡◌, ◌≤◌, ◌∷◌};
+ghost use Rattle.std.specs.Prelude.{◌≡◌, ◌+◌, ◌≤◌, ◌<◌, ◌∷◌, MatchOption};
 ghost use Rattle.plan.specs.Plan.{stages, admitted, numbered_rules, rules};
 ghost use Rattle.plan.specs.Row.{row_step, row_end, stage_step, last_step, marked_step};
 
@@ -53,6 +53,18 @@ fn row_end(row: Row, end: u32) -> bool
     row.accept < end && row.accept + 1 == row.reject && row.reject <= end
 }
 
+// The stage after `before` units, if it ends by 1,000 units: no plan has more.
+fn ending(stage: Stage, before: u32) -> Option<StageEnd>
+    requires { before ≤ 1000 }
+    ensures { MatchOption result (1000 < before + stage.size) (λ e. (e.stage ≡ stage) × (e.end ≡ before + stage.size)) }
+{
+    if stage.size > 1000 - before {
+        return None;
+    }
+    let end = before + stage.size;
+    Some(StageEnd { stage, end })
+}
+
 impl StageEnd {
     // The rules on a stage with acceptance numbers and the next one, which is the last or not.
     #[tactic(auto, unfolding(crate::specs::Row::stage_step))]
@@ -93,21 +105,20 @@ fn numbered_rules(first: Stage, plan: &[u32], before: u32) -> bool
     let mut left = plan;
     let mut end = before;
     while let Some((next, rest)) = split_first(left) {
-        if 1000 - end < stage.size {
+        let Some(there) = ending(stage, end) else {
+            return false;
+        };
+        if !there.stage_step(next, rest.len() < 5) {
             return false;
         }
-        end += stage.size;
-        if !(StageEnd { stage, end }).stage_step(next, rest.len() < 5) {
-            return false;
-        }
+        end = there.end;
         stage = next;
         left = rest;
     }
-    if 1000 - end < stage.size {
-        return false;
+    match ending(stage, end) {
+        Some(there) => there.last_step(),
+        None => false,
     }
-    end += stage.size;
-    StageEnd { stage, end }.last_step()
 }
 
 // The rejection numbers of a marked stage, and the next one.

@@ -34,7 +34,7 @@ unfoldable pub estimate : ℕ → List ℕ → Outcome (Result Estimate Refusal)
 estimate n w =
     outcome (estimate_rows n w) w (estimate_of (stages (plan_words w)) (history (lot n w))) w
 
--- ---- laws, proved in proofs/Estimate.antt
+-- ---- laws, proved in proofs/Estimates.antt
 
 -- three fractions that add to 1
 pub record Fractions (e : Estimate) : Type 0 where

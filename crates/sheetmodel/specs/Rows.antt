@@ -31,7 +31,7 @@ answer_to p x = earliest (stages p) (counts (classes_in x))
 abbrev pub open_own : ℕ → Option (List ℕ) → List Row
 open_own n x = row refusal.LotZero (eqb n 0) ∷ row refusal.LotOpen (is_some x) ∷ []
 
--- every other call on a lot has row refusal.NoLot before these
+-- every other call on a lot has row 6 before these
 abbrev pub lot_rows : Option (List ℕ) → List Row → List Row
 lot_rows x rest = row refusal.NoLot (not (is_some x)) ∷ rest
 
