@@ -1,9 +1,17 @@
 // What the calls answer. Document 01, "Chance of acceptance"; document 02, changes 2 and 6.
 
+use std::fmt;
+
 #[derive(Clone, Copy, Debug, PartialEq)]
 pub struct Interval<T> {
     pub low: T,
     pub high: T,
+}
+
+impl<T: fmt::Display> fmt::Display for Interval<T> {
+    fn fmt<W: fmt::Write>(&self, f: &mut fmt::Formatter<W>) -> fmt::Result {
+        write!(f, "{} {}", self.low, self.high)
+    }
 }
 
 // Of a chance in units of 2^-40, of the expected number of units in units of 2^-30.

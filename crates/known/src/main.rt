@@ -3,7 +3,6 @@
 #![tactic(auto)]
 
 use cases::print;
-use chance::Interval;
 use plan::Refusal;
 use sheet::Estimate;
 use std::io;
@@ -24,24 +23,11 @@ fn lot_estimate(plan: &[u32]) -> Result<Estimate, Refusal> {
 }
 
 fn estimate(rt: &impl Print, plan: &[u32]) -> io::Result<()> {
-    match lot_estimate(plan) {
-        Ok(
-            Estimate {
-                good,
-                marginal,
-                bad,
-                over,
-            },
-        ) => println!(rt; "{good} {marginal} {bad} {over}"),
-        Err(refusal) => print::refusal(rt, refusal),
-    }
+    print::reply(rt, lot_estimate(plan))
 }
 
 fn bounds(rt: &impl Print, plan: &[u32], [w0, w1, w2]: [u32; 3]) -> io::Result<()> {
-    match chance::chance(plan, w0, w1, w2, &mut [u64::MAX; 2]) {
-        Ok(Interval { low, high }) => println!(rt; "{low} {high}"),
-        Err(refusal) => print::refusal(rt, refusal),
-    }
+    print::reply(rt, chance::chance(plan, w0, w1, w2, &mut [u64::MAX; 2]))
 }
 
 fn main(rt: HostRuntime) -> io::Result<()> {

@@ -1,5 +1,6 @@
 // Chains of records: a lot's inspections, and the free records. Each record is tested before its words
-// are used, so that a damaged chain ends the walk.
+// are used, so that a damaged chain ends the walk. A tested record is given by `if`, and not by `then_some`,
+// which takes its value before the test.
 ghost use Rattle.std.specs.Prelude.{◌≡◌, ◌+◌, ◌-◌, ◌≤◌, ◌<◌, cond, eqb};
 ghost use Rattle.plan.specs.Plan.{stages, end_below};
 ghost use Rattle.plan.specs.Counts.{units};
@@ -38,7 +39,7 @@ impl Chain {
         }
     }
 
-    // These older inspections and newer ones.
+    // These older inspections and newer ones; no Add, since a chain has an older and a newer end.
     fn with(self, newer: Chain) -> Chain
         requires { (units self.counts + units newer.counts ≤ 1000) × (self.blanks + newer.blanks ≤ 1000) }
         ensures { result ≡ with_chain self newer }

@@ -1,6 +1,7 @@
 // What granted calls give. specs/Reply.antt has document 01's numbers for each.
 // The numbers stand one by one in document 01's order, as C and the programs give them: so no `Counts` within.
 use plan::Answer;
+use std::fmt;
 
 // What a lot shows. The blanks are among the marginal units.
 #[derive(Clone, Copy, Debug, PartialEq, Eq)]
@@ -30,4 +31,14 @@ pub struct Estimate {
     pub marginal: u64,
     pub bad: u64,
     pub over: u64,
+}
+
+impl fmt::Display for Estimate {
+    fn fmt<W: fmt::Write>(&self, f: &mut fmt::Formatter<W>) -> fmt::Result {
+        write!(
+            f,
+            "{} {} {} {}",
+            self.good, self.marginal, self.bad, self.over
+        )
+    }
 }

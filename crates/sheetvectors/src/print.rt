@@ -3,8 +3,7 @@ use plan::Refusal;
 use sheet::{Estimate, Shown, Totals};
 use std::io;
 
-// What a granted call gives.
-// Not `Display`: `()` has none, and a lot's state as a number is of the test format alone.
+// What a granted call gives. Not `Display`: `()` has none, and a lot's state as a number is of the test format alone.
 pub trait Granted {
     fn print(self, rt: &impl Print) -> io::Result<()>;
 }
@@ -47,13 +46,7 @@ impl Granted for Totals {
 
 impl Granted for Estimate {
     fn print(self, rt: &impl Print) -> io::Result<()> {
-        let Estimate {
-            good,
-            marginal,
-            bad,
-            over,
-        } = self;
-        print!(rt; "{good} {marginal} {bad} {over}")
+        print!(rt; "{self}")
     }
 }
 

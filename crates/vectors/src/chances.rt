@@ -39,8 +39,5 @@ pub fn answer<F: Fn(&[u32], [u32; 3], &mut [u64]) -> Result<Bounds, Refusal>>(
     let Some(scratch) = scratch.get_mut(..*needed as usize) else {
         return print::bad_line(rt);
     };
-    match call(plan, [*w0, *w1, *w2], scratch) {
-        Ok(Interval { low, high }) => println!(rt; "{low} {high}"),
-        Err(refusal) => print::refusal(rt, refusal),
-    }
+    print::reply(rt, call(plan, [*w0, *w1, *w2], scratch))
 }
