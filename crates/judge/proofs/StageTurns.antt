@@ -4,11 +4,11 @@ use native.Mathlib.Omega.{arith}
 use native.Mathlib.Decide.{dec_lt}
 use mathlib.Core.Path.{◌≡◌, refl, ap, sym, subst, ◌∙◌}
 use mathlib.Core.Logic.{◌⊎◌, inl, inr}
-use mathlib.Core.Bool.{true, false, cond}
-use mathlib.Core.List.{List, [], ◌∷◌, ◌++◌}
+use mathlib.Core.Bool.{true, false}
+use mathlib.Core.List.{List, ◌++◌}
 use lib.ListN.{length, get_or, take, drop, length-drop}
 use lib.Seq.{drop-drop}
-use lib.Dec.{eqb, ltb}
+use lib.Dec.{eqb}
 use borrow.Author.Tests.{eqb-false, lt-ltb, le-ltb}
 use Rattle.plan.specs.declared.counts.Counts.{Counts}
 use Rattle.plan.specs.declared.stage.Answer.TheVariants.{GoOn}
@@ -18,35 +18,13 @@ use Rattle.plan.specs.Plan.{stages, end_from, admitted}
 use Rattle.plan.specs.Counts.{units, no_units, counts_after, counts}
 use Rattle.plan.specs.Stopping.{goes_on, answer}
 use Rattle.plan.specs.Promise.{SameStage}
-use Rattle.plan.proofs.Promise.{promise, shape, counting}
+use Rattle.plan.proofs.Promise.{promise, shape, counting, stage_words}
 use Rattle.judge.specs.Laws.{rule_of}
 use Rattle.judge.specs.Run.{Between, BeforeStop}
 use Rattle.judge.proofs.FromFull.{units_left, all_read}
 use Rattle.judge.proofs.Halves.{run_end, stage_steady, stage_between}
 use Rattle.judge.proofs.Runs.{run_counts, units_to}
 use Rattle.judge.proofs.Stops.{at_none}
-
--- the end of a run of words that begins with those of a stage, x
-end_with : (i y : ℕ) (x later : List ℕ) → length x ≡ 5
-    → end_from i (stages (x ++ later)) y ≡ cond (ltb (i + get_or x 0 0) y) (end_from (i + get_or x 0 0)
-    (stages later) y) (i + get_or x 0 0)
-unfolding stages end_from
-end_with i y (n ∷ a1 ∷ r1 ∷ a2 ∷ r2 ∷ []) later h = refl
-end_with i y [] later h = absurd (omega arith)
-end_with i y (n ∷ []) later h = absurd (omega arith)
-end_with i y (n ∷ a1 ∷ []) later h = absurd (omega arith)
-end_with i y (n ∷ a1 ∷ r1 ∷ []) later h = absurd (omega arith)
-end_with i y (n ∷ a1 ∷ r1 ∷ a2 ∷ []) later h = absurd (omega arith)
-end_with i y (n ∷ a1 ∷ r1 ∷ a2 ∷ r2 ∷ b ∷ more) later h = absurd (omega arith)
-
-end_without : (i y : ℕ) (ws : List ℕ) → length ws < 5 → end_from i (stages ws) y ≡ i
-unfolding stages end_from
-end_without i y [] h = refl
-end_without i y (n ∷ []) h = refl
-end_without i y (n ∷ a1 ∷ []) h = refl
-end_without i y (n ∷ a1 ∷ r1 ∷ []) h = refl
-end_without i y (n ∷ a1 ∷ r1 ∷ a2 ∷ []) h = refl
-end_without i y (n ∷ a1 ∷ r1 ∷ a2 ∷ r2 ∷ more) h = absurd (omega arith)
 
 -- after i units all of the list is read, or a stage has ended and the words ws have those that follow
 abbrev pub Ended : List ℕ → List ℕ → ℕ → List ℕ → Type 0
@@ -92,7 +70,7 @@ module _ (w : List ℕ) (ok : admitted w ≡ true) (xs : List ℕ) where
             absurd (omega (
               arith,
               f (i + 1) (omega arith),
-              end_without i (i + 1) ws n,
+              stage_words.none_left i (i + 1) ws n,
               ((promise w ok).end_from_is
                   (i + 1) (omega arith)).0,
             ))
@@ -105,10 +83,10 @@ module _ (w : List ℕ) (ok : admitted w ≡ true) (xs : List ℕ) where
 
       within_stage : (y : ℕ) → y ≤ i + get_or x 0 0 → end_from i (stages ws) y ≡ i + get_or x 0 0
       within_stage y l =
-          ap (λ (v : List ℕ). end_from i (stages v) y) p ∙ end_with i y x later n ∙ rw (le-ltb (i + get_or x 0 0) y l)
+          ap (λ (v : List ℕ). end_from i (stages v) y) p ∙ stage_words.next i y x later n ∙ rw (le-ltb (i + get_or x 0 0) y l)
 
       past : (y : ℕ) → i + get_or x 0 0 < y → end_from i (stages ws) y ≡ end_from (i + get_or x 0 0) (stages later) y
-      past y l = ap (λ (v : List ℕ). end_from i (stages v) y) p ∙ end_with i y x later n ∙ rw (lt-ltb
+      past y l = ap (λ (v : List ℕ). end_from i (stages v) y) p ∙ stage_words.next i y x later n ∙ rw (lt-ltb
           (i + get_or x 0 0) y l)
 
       ended_after : (j : ℕ) → j ≡ i + m → Ended w xs i ws → Ended w xs j later
