@@ -143,7 +143,7 @@ refusal_law A refuse rows grant apart not e =
 
 -- the refusal of a number; `Line` of one that is not in the table
 numbered : ℕ → Refusal
-numbered n = pick n (refusal.Size ∷ refusal.Plan ∷ refusal.Corrupt ∷ refusal.Shares ∷ refusal.LotZero ∷ refusal.LotOpen ∷ refusal.NoLot ∷ refusal.Class ∷ refusal.Decided ∷ refusal.NoUnit ∷ refusal.Undecided ∷ refusal.Full ∷ refusal.HeldBack ∷ refusal.TotalsFull ∷ refusal.Weights ∷ refusal.LotSize ∷ refusal.Scratch ∷ refusal.SeveralStages ∷ [])
+numbered n = pick n (refusal.Size ∷ refusal.Plan ∷ refusal.Corrupt ∷ refusal.Shares ∷ refusal.NoFit ∷ refusal.LotZero ∷ refusal.LotOpen ∷ refusal.NoLot ∷ refusal.Class ∷ refusal.Decided ∷ refusal.NoUnit ∷ refusal.Undecided ∷ refusal.Full ∷ refusal.HeldBack ∷ refusal.TotalsFull ∷ refusal.Weights ∷ refusal.LotSize ∷ refusal.Scratch ∷ refusal.SeveralStages ∷ [])
   where
     pick : ℕ → List Refusal → Refusal
     pick n [] = refusal.Line
@@ -155,6 +155,7 @@ numbered_number refusal.Size = refl
 numbered_number refusal.Plan = refl
 numbered_number refusal.Corrupt = refl
 numbered_number refusal.Shares = refl
+numbered_number refusal.NoFit = refl
 numbered_number refusal.LotZero = refl
 numbered_number refusal.LotOpen = refl
 numbered_number refusal.NoLot = refl
@@ -199,36 +200,39 @@ the_table = (
       (
         (refusal.Shares, refl),
         (
-          (refusal.LotZero, refl),
+          (refusal.NoFit, refl),
           (
-            (refusal.LotOpen, refl),
+            (refusal.LotZero, refl),
             (
-              (refusal.NoLot, refl),
+              (refusal.LotOpen, refl),
               (
-                (refusal.Class, refl),
+                (refusal.NoLot, refl),
                 (
-                  (refusal.Decided, refl),
+                  (refusal.Class, refl),
                   (
-                    (refusal.NoUnit, refl),
+                    (refusal.Decided, refl),
                     (
-                      (refusal.Undecided, refl),
+                      (refusal.NoUnit, refl),
                       (
-                        (refusal.Full, refl),
+                        (refusal.Undecided, refl),
                         (
-                          (refusal.HeldBack, refl),
+                          (refusal.Full, refl),
                           (
-                            (refusal.TotalsFull, refl),
+                            (refusal.HeldBack, refl),
                             (
-                              (refusal.Weights, refl),
+                              (refusal.TotalsFull, refl),
                               (
-                                (refusal.LotSize, refl),
+                                (refusal.Weights, refl),
                                 (
-                                  (refusal.Scratch, refl),
+                                  (refusal.LotSize, refl),
                                   (
-                                    (refusal.SeveralStages, refl),
+                                    (refusal.Scratch, refl),
                                     (
-                                      (refusal.Line, refl),
-                                      tt,
+                                      (refusal.SeveralStages, refl),
+                                      (
+                                        (refusal.Line, refl),
+                                        tt,
+                                      ),
                                     ),
                                   ),
                                 ),
@@ -254,6 +258,7 @@ in_the_table refusal.Size = search rules
 in_the_table refusal.Plan = search rules
 in_the_table refusal.Corrupt = search rules
 in_the_table refusal.Shares = search rules
+in_the_table refusal.NoFit = search rules
 in_the_table refusal.LotZero = search rules
 in_the_table refusal.LotOpen = search rules
 in_the_table refusal.NoLot = search rules

@@ -2,7 +2,7 @@
 -- reply is the first row that applies, else what is granted.
 use Rattle.std.specs.Prelude.{ℕ, ◌+◌, ◌≤◌, ◌<◌, ◌≡◌, ◌↔◌, ◌≢◌, ◌⊎◌, Bool, true, false, cond, ◌&&◌, List, [], ◌∷◌, length, leb, ltb, eqb}
 use Rattle.plan.specs.declared.refusal.Refusal.{Refusal}
-use Rattle.plan.specs.declared.refusal.Refusal.TheVariants.{Size, Plan, Corrupt, Shares, LotZero, LotOpen, NoLot, Class, Decided, NoUnit, Undecided, Full, HeldBack, TotalsFull, Weights, LotSize, Scratch, SeveralStages, Line}
+use Rattle.plan.specs.declared.refusal.Refusal.TheVariants.{Size, Plan, Corrupt, Shares, NoFit, LotZero, LotOpen, NoLot, Class, Decided, NoUnit, Undecided, Full, HeldBack, TotalsFull, Weights, LotSize, Scratch, SeveralStages, Line}
 use Rattle.plan.specs.Reply.{Reply, granted, refused}
 
 -- a refusal's number in document 01, and in 02
@@ -11,6 +11,7 @@ number Size = 1
 number Plan = 2
 number Corrupt = 3
 number Shares = 18
+number NoFit = 20
 number LotZero = 4
 number LotOpen = 5
 number NoLot = 6
@@ -38,10 +39,10 @@ first_refusal refuse (r ∷ rest) grant = cond r.when (refuse r.refusal) (first_
 
 -- ---- the table's order
 
--- the numbers of the table, in its order. Document 02 puts 17 between 13 and 14 (change 2), 18 after 2 and 19 after 11 (change 7);
--- 18 stands after 3 too, which change 8 asks for
+-- the numbers of the table, in its order. Document 02 puts 17 between 13 and 14 (change 2), 18 after 2 and 19 after 11 (change 7),
+-- and 18 after 3 too, with 20 after it (change 8)
 abbrev pub table : List ℕ
-table = 1 ∷ 2 ∷ 3 ∷ 18 ∷ 4 ∷ 5 ∷ 6 ∷ 7 ∷ 8 ∷ 9 ∷ 10 ∷ 11 ∷ 19 ∷ 12 ∷ 13 ∷ 17 ∷ 14 ∷ 15 ∷ 16 ∷ []
+table = 1 ∷ 2 ∷ 3 ∷ 18 ∷ 20 ∷ 4 ∷ 5 ∷ 6 ∷ 7 ∷ 8 ∷ 9 ∷ 10 ∷ 11 ∷ 19 ∷ 12 ∷ 13 ∷ 17 ∷ 14 ∷ 15 ∷ 16 ∷ []
 
 -- how many of these numbers stand before n
 abbrev pub before : ℕ → List ℕ → ℕ

@@ -1,4 +1,4 @@
-// Why a call is refused: the rows of document 01's table "Refused", in its order; 17, 18 and 19 are of document 02.
+// Why a call is refused: the rows of document 01's table "Refused", in its order; 17 to 20 are of document 02.
 ghost use Rattle.std.specs.Prelude.{◌≡◌};
 ghost use Rattle.plan.specs.Refusal.{number};
 
@@ -15,6 +15,8 @@ pub enum Refusal {
     Corrupt,
     // shares above the records of the sheet
     Shares,
+    // a second sheet with too few records for those of the old one
+    NoFit,
     // lot number 0
     LotZero,
     // a lot that is on the sheet already
@@ -48,8 +50,8 @@ pub enum Refusal {
 }
 
 impl Refusal {
-    // A method, and no From: it has a contract by the definition, and says which number of a refusal it is.
-    // Its number in the table.
+    // Its number in the table. A method, and no From: it has a contract by the definition, and says which number of a
+    // refusal it is.
     pub fn number(self) -> u32
         ensures { result ≡ number self }
     {
@@ -58,6 +60,7 @@ impl Refusal {
             Refusal::Plan => 2,
             Refusal::Corrupt => 3,
             Refusal::Shares => 18,
+            Refusal::NoFit => 20,
             Refusal::LotZero => 4,
             Refusal::LotOpen => 5,
             Refusal::NoLot => 6,
