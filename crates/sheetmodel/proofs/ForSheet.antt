@@ -6,6 +6,8 @@ pub use Rattle.sheetmodel.proofs.Read.{depths, reads, reads_a_sheet, reads_inspe
 pub use Rattle.sheetmodel.proofs.Lots.{Prior, find_above, prior_header, records_of_parts}
 pub use Rattle.sheetmodel.proofs.Shares.{an_office, others_and_own, sum_same}
 pub use Rattle.sheetmodel.proofs.Records.{OneFreed, one_freed, took}
+pub use Rattle.sheetmodel.proofs.OnChains.{links_below}
+pub use Rattle.sheetmodel.proofs.CarriedWords.{as_carried, header_length, raised_length, raised_word}
 pub use Rattle.sheetmodel.proofs.Outcomes.{refuses, grants}
 pub use Rattle.sheetmodel.proofs.Standing.{is_history}
 pub use Rattle.sheetmodel.proofs.Change.{Found, find_lot, found_history, some_lot, some_value, no_lot}

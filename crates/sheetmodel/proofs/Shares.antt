@@ -24,7 +24,7 @@ sum_same zero f g h = refl
 sum_same (suc n) f g h = omega (arith, sum_same n f g (λ o b. h o (omega arith)), h n (omega arith))
 
 -- .. but at a
-sum_but : (n a : ℕ) (f g : ℕ → ℕ) → a < n → ((o : ℕ) → o < n → o ≢ a → f o ≡ g o) → added_up n f + g a ≡ added_up n g + f a
+pub sum_but : (n a : ℕ) (f g : ℕ → ℕ) → a < n → ((o : ℕ) → o < n → o ≢ a → f o ≡ g o) → added_up n f + g a ≡ added_up n g + f a
 unfolding added_up
 sum_but zero a f g b h = absurd (omega arith)
 sum_but (suc n) a f g b h = go (λ k. sum_but n a f g k (λ o l. h o (omega arith))) (eqb n a) refl

@@ -1,5 +1,5 @@
 -- These words hold these contents: document 01's paragraph "Torn means", clause by clause. `start` is the first record after
--- the header and `hi` the next never used, so an index on a chain is from start to hi - 1. The clause on shares (document 02, change
+-- the header (15; 11 of an old sheet) and `hi` the next never used, so an index on a chain is from start to hi - 1. The clause on shares (document 02, change
 -- 7) stands apart, in Intact (Start.antt). Apart from the reader (Read.antt), which is proved to find exactly this
 -- (proofs/Read.antt).
 use Rattle.std.specs.Prelude.{ℕ, suc, ◌+◌, ◌*◌, ◌≤◌, ◌<◌, ◌≡◌, true, List, [], ◌∷◌, length, take}
@@ -8,7 +8,7 @@ use Rattle.plan.specs.declared.stage.Stage.{Stage}
 use Rattle.plan.specs.Plan.{stages, admitted}
 use Rattle.plan.specs.Counts.{counts}
 use Rattle.plan.specs.Stopping.{earliest}
-use Rattle.sheetmodel.specs.Layout.{word, field, next, newest, records, next_unused, first_lot, first_free, stage_count, plan_start, plan_room, plan_words, closed_lots, closed_units, free_tag, most_closed}
+use Rattle.sheetmodel.specs.Layout.{greatest_size, word, field, next, newest, records, next_unused, first_lot, first_free, stage_count, plan_start, plan_room, plan_words, closed_lots, closed_units, free_tag, most_closed}
 use Rattle.plan.specs.Sample.{highest_class}
 use Rattle.sheetmodel.specs.Contents.{Inspection, Lot, Contents, history, records_of}
 
@@ -82,3 +82,14 @@ pub record Holds (start : ℕ) (w : List ℕ) (s : Contents) : Type 0 where
   -- closed lots above 4,000,000, or closed units above 1,000 × closed lots
   pub lots_bound : closed_lots w ≤ most_closed
   pub units_bound : closed_units w ≤ 1000 * closed_lots w
+
+-- ---- the links of every record in use, on whichever chain, are below the next record never used (proofs/OnChains.antt)
+
+pub record LinksBelow (start : ℕ) (w : List ℕ) : Type 0 where
+  pub lot : word w first_lot < word w next_unused
+  pub free : word w first_free < word w next_unused
+  -- words 1 and 2 of a record, whatever it is
+  pub each : (j : ℕ) → start ≤ j → j < word w next_unused → (field w j 1 < word w next_unused) × (field w j 2 < word w next_unused)
+
+abbrev pub LinksLaw : Type 0
+LinksLaw = (start : ℕ) (w : List ℕ) (s : Contents) → 1 ≤ start → length w ≤ greatest_size → Holds start w s → LinksBelow start w

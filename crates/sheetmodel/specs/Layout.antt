@@ -9,8 +9,12 @@ least_size = 64
 abbrev pub greatest_size : ℕ
 greatest_size = 65536
 
+-- from the least size of a layout to the greatest of all
+abbrev pub size_from : ℕ → List ℕ → Bool
+size_from least w = leb least (length w) && leb (length w) greatest_size
+
 abbrev pub size_ok : List ℕ → Bool
-size_ok w = leb least_size (length w) && leb (length w) greatest_size
+size_ok w = size_from least_size w
 
 -- the largest number that a word has
 abbrev pub largest : ℕ
@@ -126,3 +130,11 @@ free_tag = largest
 
 abbrev pub most_closed : ℕ
 most_closed = 4000000
+
+-- ---- an old sheet's layout (document 02, change 8): the header ends with the totals, so that records start sooner
+
+abbrev pub old_least_size : ℕ
+old_least_size = 48
+
+abbrev pub old_first_record : ℕ
+old_first_record = 11

@@ -1,5 +1,5 @@
 -- Every record in use is on a chain: the chains have as many records as are in use, and none twice. So words 1 and 2 of a record in
--- use, whatever it is, lead to a record in use or are 0. Assumes nothing.
+-- use, whatever it is, are below the next record never used. Assumes nothing.
 use Prim.Native.Nat.{ℕ, zero, suc, ◌+◌, ◌-◌, ◌≤◌, ◌<◌}
 use mathlib.Core.Path.{◌≡◌, refl, sym, subst}
 use mathlib.Core.Bool.{Bool, true, false, cond}
@@ -89,7 +89,7 @@ lots_and_inspections [] = refl
 lots_and_inspections (l ∷ ls) = simp (length-append, length-map) (omega (arith, lots_and_inspections ls))
 
 module _ (start : ℕ) (w : List ℕ) (hi : ℕ) where
-  -- words 1 and 2 of the record q lead to records in use, or are 0
+  -- the record q is in use, and its words 1 and 2 are below the next never used
   record InUse (q : ℕ) : Type 0 where
     pub low : start ≤ q
     pub high : q < hi
@@ -124,8 +124,8 @@ module _ (start : ℕ) (w : List ℕ) (hi : ℕ) where
         let r = free js (field w j 1) h.1 in
         (omega arith, add (omega arith) (λ q p. omega arith) (λ p. omega arith) r.1)
 
-pub links_in_use : LinksLaw
-links_in_use start w s one long h =
+pub links_below : LinksLaw
+links_below start w s one long h =
     let hi = word w next_unused in
     let l = lots start w hi (omega arith) 0 s.lots (field w 0 1) h.lots in
     let f = free start w hi (omega arith) s.free (field w 0 2) h.free in

@@ -2,16 +2,17 @@
 use Rattle.std.specs.Prelude.{ℕ, ◌+◌, ◌*◌, ◌≤◌, ◌≡◌, List, map, length}
 use Rattle.std.proofs.Math.Option
 use Rattle.std.proofs.Math.Option.{Option}
-use Rattle.sheetmodel.specs.declared.reply.Done.TheVariants.{Ok}
-use Rattle.sheetmodel.specs.Layout.{word, records, next_unused, plan_words, totals, first_record, offices, old_first_record}
+use Rattle.std.specs.declared.result.Result.TheVariants.{Ok}
+use Rattle.sheetmodel.specs.Layout.{word, records, plan_words, totals, first_record, offices, old_first_record}
 use Rattle.sheetmodel.specs.Contents.{Inspection, Lot, Contents, history, find}
 use Rattle.sheetmodel.specs.Offices.{held}
 use Rattle.sheetmodel.specs.Holds.{Holds}
 use Rattle.sheetmodel.specs.History.{Call, run}
 use Rattle.sheetmodel.specs.Start.{Start, after_start}
 use Rattle.sheetmodel.specs.Demand3.{ClaimFrom}
+use Rattle.sheetmodel.specs.Replies.{ByHistory}
 use Rattle.sheetmodel.specs.Fairness.{EnoughSpare, Fair}
-use Rattle.sheetmodel.specs.Carry.{carry}
+use Rattle.sheetmodel.specs.Carry.{carried_next, carry}
 
 -- ---- the same lots, histories and free records, each four records later
 
@@ -40,16 +41,19 @@ pub record Carried (old shares w v : List ℕ) : Type 0 where
   -- it is a start with the old plan, the histories of the old lots and the old totals
   pub start : Start (plan_words old) shares v (histories_of contents) (totals old)
   -- it has room, and the words past the carried records keep their values
-  pub room : word old next_unused + 4 ≤ records w
+  pub room : carried_next old ≤ records w
   pub same_length : length v ≡ length w
-  pub past : (i : ℕ) → 4 * (word old next_unused + 4) ≤ i → word v i ≡ word w i
+  pub past : (i : ℕ) → 4 * carried_next old ≤ i → word v i ≡ word w i
   -- so demand 3 holds for lists on the second sheet
   pub claim : (cs : List Call) → ClaimFrom (plan_words old) shares (totals old) (after_start v (histories_of contents) cs)
+  -- and each call's reply is that by the plan and the histories
+  pub replies : (cs : List Call) → ByHistory (plan_words old) (after_start v (histories_of contents) cs).words
+      (after_start v (histories_of contents) cs).histories.standing
   -- and the promise on shares, from the first point at which enough is spare
   pub fair : (cs ds : List Call) → EnoughSpare (after_start v (histories_of contents) cs).words →
       Fair (run ds (after_start v (histories_of contents) cs)).words
 
 -- of every granted carry
 abbrev pub CarryIsAStart : Type 0
-CarryIsAStart = (old shares w : List ℕ) → length shares ≡ offices → (carry old shares w).reply ≡ Ok →
+CarryIsAStart = (old shares w : List ℕ) → length shares ≡ offices → (carry old shares w).reply ≡ Ok tt →
     Carried old shares w (carry old shares w).words

@@ -9,10 +9,13 @@ use native.Mathlib.Omega.{arith}
 use lib.ListN.{length, get_or, length-map}
 use lib.Dec.{leb, eqb}
 use borrow.Author.Tests.{eq-eqb, ne_eqb, leb-true, ltb-false, not-false}
-use Rattle.plan.specs.Plan.{Stage, stages}
+use Rattle.plan.specs.declared.stage.Stage.{Stage}
+use Rattle.plan.specs.Plan.{stages}
 use Rattle.plan.specs.Refusal.{NoneApplies}
 use Rattle.plan.proofs.Bools.{and_left, and_right}
-use Rattle.sheetmodel.specs.declared.reply.Done.TheVariants as done
+use Rattle.std.specs.declared.result.Result.{Result}
+use Rattle.std.specs.declared.result.Result.TheVariants.{Ok}
+use Rattle.plan.specs.declared.refusal.Refusal.{Refusal}
 use Rattle.sheetmodel.specs.declared.reply.Totals.{Totals}
 use Rattle.sheetmodel.specs.Layout.{least_size, greatest_size, size_from, size_ok, word, field, next, newest, records, plan_words, next_unused, first_lot, first_free, stage_count, plan_room, accepted_lots, rejected_lots, good_units, marginal_units, bad_units, totals, closed_lots, closed_units, shares_start, first_record, offices, share, old_least_size, old_first_record}
 use Rattle.sheetmodel.specs.Contents.{Inspection, Lot, Contents, history, find, records_of}
@@ -20,6 +23,7 @@ use Rattle.sheetmodel.specs.Offices.{shares_fit, held}
 use Rattle.sheetmodel.specs.Holds.{Inspections, Lots, Free, UndecidedBefore, AllUndecidedBefore, Holds}
 use Rattle.sheetmodel.specs.Read.{read_from}
 use Rattle.sheetmodel.specs.Start.{Start}
+use Rattle.sheetmodel.specs.Calls.{Outcome}
 use Rattle.sheetmodel.specs.Carry.{raised, carry_words, carry_rows, carry}
 use Rattle.sheetmodel.specs.Carried.{raised_inspection, raised_lot, raised_contents, histories_of, Carried, CarryIsAStart}
 use Rattle.sheetmodel.proofs.Read.{reads}
@@ -28,6 +32,7 @@ use Rattle.sheetmodel.proofs.Outcomes.{by_rows}
 use Rattle.sheetmodel.proofs.Invariant.{plan_fits, same_plan, same_unused}
 use Rattle.sheetmodel.proofs.Change.{some_value}
 use Rattle.sheetmodel.proofs.Demand3.{from_any_start}
+use Rattle.sheetmodel.proofs.Replies.{replies_by_history}
 use Rattle.sheetmodel.proofs.Fairness.{fair_from_there_on}
 use Rattle.sheetmodel.proofs.CarriedWords.{carried_length, header_kept, carried_share, carried_field, carried_past}
 
@@ -199,6 +204,7 @@ module _ (old shares w : List ℕ) (s : Contents) (h : Holds old_first_record ol
     same_length = same_size;
     past = carried_past old shares w old_long sixteen h.begun fits;
     claim = from_any_start (plan_words old) shares new (histories_of s) (totals old) carried_start;
+    replies = replies_by_history (plan_words old) shares new (histories_of s) (totals old) carried_start;
     fair = fair_from_there_on (plan_words old) shares new (histories_of s) (totals old) carried_start;
   }
 
@@ -217,5 +223,5 @@ where_granted old shares w sixteen no_row =
 pub carry_is_a_start : CarryIsAStart
 unfolding carry
 carry_is_a_start old shares w sixteen =
-    by_rows done.Refused w done.Ok (carry_words old shares w) (λ o. o.reply ≡ done.Ok → Carried old shares w o.words)
+    by_rows w tt (carry_words old shares w) (λ (o : Outcome (Result (Unit {0}) Refusal)). o.reply ≡ Ok tt → Carried old shares w o.words)
     (λ n e. let z : ◌≡◌ {A = ℕ} 0 1 = cc in absurd (omega arith)) (carry_rows old shares w) (λ none e. where_granted old shares w sixteen none)
