@@ -73,7 +73,7 @@ module _ (n : ℕ) (w : List ℕ) where
         let long = long_enough w k.size in
         let plan = (holds w k.contents k.size k.reads).plan in
         let s = shape (plan_words w) plan in
-        omega (arith, s.whole, few_stages w long plan, length-take (5 * word w stage_count) (drop plan_start w), length-drop plan_start w)
+        omega (arith, s.whole, few_stages w (omega arith) plan, length-take (5 * word w stage_count) (drop plan_start w), length-drop plan_start w)
 
     pub estimate_undecided : undecided (earliest (stages (plan_words w)) f.chain.counts) ≡ true → estimate n w ≡ record { reply = Err refusal.Undecided; words = w }
     unfolding estimate estimate_rows

@@ -21,9 +21,9 @@ module _ (p shares w : List ℕ) where
   unfolding fresh fresh_rows
   not_admitted z e = refuses w tt (fresh_words p shares w) (fresh_rows p shares w) refusal.Plan (inr (rw z refl, inl (rw e refl, refl)))
 
-  pub no_fit : size_ok w ≡ true → admitted p ≡ true → shares_fit (word shares) w ≡ false → fresh p shares w ≡ record { reply = Err refusal.Shares; words = w }
+  pub too_many_shares : size_ok w ≡ true → admitted p ≡ true → shares_fit (word shares) w ≡ false → fresh p shares w ≡ record { reply = Err refusal.Shares; words = w }
   unfolding fresh fresh_rows
-  no_fit z e f = refuses w tt (fresh_words p shares w) (fresh_rows p shares w) refusal.Shares (inr (rw z refl, inr (rw e refl, inl (rw f refl, refl))))
+  too_many_shares z e f = refuses w tt (fresh_words p shares w) (fresh_rows p shares w) refusal.Shares (inr (rw z refl, inr (rw e refl, inl (rw f refl, refl))))
 
   pub granted : size_ok w ≡ true → admitted p ≡ true → shares_fit (word shares) w ≡ true → fresh p shares w ≡ record { reply = Ok tt; words = fresh_words p shares w }
   unfolding fresh fresh_rows

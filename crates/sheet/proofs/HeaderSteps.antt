@@ -9,7 +9,7 @@ use lib.ListN.{length, take, drop, length-take, length-drop}
 use lib.Seq.{drop-drop}
 use Rattle.plan.specs.Plan.{admitted}
 use Rattle.plan.proofs.Promise.{shape}
-use Rattle.sheetmodel.specs.Layout.{least_size, word, stage_count, plan_start, plan_room, accepted_lots, plan_words, unused_stages}
+use Rattle.sheetmodel.specs.Layout.{shares_start, word, stage_count, plan_start, plan_room, accepted_lots, plan_words, unused_stages}
 
 take_nil : (n : ℕ) → take {A = ℕ} n [] ≡ []
 take_nil zero = refl
@@ -22,7 +22,7 @@ drop_take (suc k) zero l = let n : 0 - suc k ≡ 0 = omega arith in rw n
 drop_take (suc k) (suc m) [] = sym (take_nil (suc m - suc k))
 drop_take (suc k) (suc m) (x ∷ l) = let n : suc m - suc k ≡ m - k = omega arith in rw n (drop_take k m l)
 
-module _ (w : List ℕ) (low : least_size ≤ length w) where
+module _ (w : List ℕ) (low : shares_start ≤ length w) where
   -- more than seven stages are no plan
   pub too_many : 7 < word w stage_count → admitted (plan_words w) ≡ false
   too_many l = go (admitted (plan_words w)) refl

@@ -4,12 +4,13 @@ use mathlib.Core.Path.{◌≡◌, refl, sym, ap, ◌∙◌}
 use mathlib.Core.Bool.{true}
 use mathlib.Core.List.{List, [], ◌∷◌, ◌++◌, append_assoc}
 use native.Mathlib.Omega.{arith}
-use lib.ListN.{length, set, take, drop, replicate, take-append-drop, length-take, length-drop, length-append, length-replicate, replicate-append-replicate}
-use lib.Seq.{take_all, take_at, drop_at, drop-drop, paste}
+use lib.ListN.{length, set, take, drop, replicate, length-take, length-drop, length-append, length-replicate, replicate-append-replicate}
+use lib.Seq.{paste}
 use Rattle.plan.specs.Plan.{stages, admitted}
 use Rattle.plan.proofs.Promise.{shape}
 use Rattle.sheetmodel.specs.Layout.{least_size, header_size, plan_start, shares_start, offices, next_unused, first_lot, first_free, stage_count, first_record}
 use Rattle.sheetmodel.specs.Calls.{fresh_words}
+use Rattle.sheet.proofs.Pasted.{parted, over}
 use borrow.Rule.Slice.PartMut.{put_mid}
 use Rattle.std.proofs.lemmas.Slice.{put_mid-paste}
 
@@ -26,18 +27,6 @@ first_words w k = set (set (set (set w next_unused first_record) first_lot 0) fi
 
 -- ---- the parts joined
 
-parts_pasted : (v a s c : List ℕ) (at n : ℕ) → take at v ≡ a → take n s ≡ s → drop (at + n) v ≡ c → paste v at s n ≡ a ++ s ++ c
-parts_pasted v a s c at n front all behind = rw (front, all, behind)
-
--- the middle of three parts, written over
-over : (a b c s : List ℕ) (at n : ℕ) {v : List ℕ} → v ≡ a ++ (b ++ c) → length a ≡ at → length b ≡ n → length s ≡ n → paste v at s n ≡ a ++ (s ++ c)
-over a b c s at n {v} e la lb ls =
-    parts_pasted v a s c at n
-    (ap (take at) e ∙ take_at a (b ++ c) at la)
-    (take_all n s (omega arith))
-    (ap (drop (at + n)) (e ∙ sym (append_assoc a b c)) ∙ drop_at (a ++ b) c (at + n) (omega (arith, length-append a b))) ∙
-    append_assoc a s c
-
 abbrev before_plan : ℕ → List ℕ
 before_plan k = first_record ∷ 0 ∷ 0 ∷ k ∷ []
 
@@ -47,10 +36,6 @@ first_written [] k long = absurd (omega arith)
 first_written (a ∷ []) k long = absurd (omega arith)
 first_written (a ∷ b ∷ []) k long = absurd (omega arith)
 first_written (a ∷ b ∷ c ∷ []) k long = absurd (omega arith)
-
--- the first n words of l, and those after them
-parted : (l : List ℕ) (from n : ℕ) → drop from l ≡ take n (drop from l) ++ drop (from + n) l
-parted l from n = sym (take-append-drop n (drop from l)) ∙ ap (λ (u : List ℕ). take n (drop from l) ++ u) (drop-drop n from l)
 
 zeros_parted : (n : ℕ) → n ≤ room → zeros ≡ replicate n 0 ++ replicate (shares_start - (plan_start + n)) 0
 zeros_parted n b = let m = shares_start - (plan_start + n) in ap (λ (k : ℕ). replicate {A = ℕ} k 0) {x = room} {y = n + m} (omega arith) ∙ sym (replicate-append-replicate n m 0)

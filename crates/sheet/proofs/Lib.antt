@@ -12,11 +12,14 @@ mod SurveySteps
 mod FreedChain
 mod TotalsKept
 mod Unlinked
+mod Pasted
 mod HeaderWords
+mod CarryWords
 mod Requires
 mod OfficeSteps
 -- of the calls
 mod FreshOutcome
+mod CarryOutcome
 mod LocatedFacts
 mod GrantFacts
 mod CallSteps

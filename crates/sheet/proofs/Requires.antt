@@ -45,21 +45,21 @@ module _ (w : List ℕ) (s : Contents) (size : size_ok w ≡ true) (r : read w �
 
   pub sized : Sized w
   sized = record {
-    long = long_enough w size;
+    long = omega (arith, long_enough w size);
     short = short_enough w size;
     room = holds.room;
   }
 
   room : full w ≡ false → Room w
   room spare =
-      let t = took first_record (omega arith) w sized.long holds.begun holds.room spare s.free holds.free in
-      record { long = sized.long; short = sized.short; inside = omega (arith, t.high, t.room) }
+      let t = took first_record (omega arith) w (long_enough w size) holds.begun holds.room spare s.free holds.free in
+      record { long = long_enough w size; short = sized.short; inside = omega (arith, t.high, t.room) }
 
   prior : (n : ℕ) → 1 ≤ last_below n 0 s.lots → Prior first_record w (word w next_unused) 0 n (last_below n 0 s.lots)
   prior n = prior_header first_record (omega arith) w (word w next_unused) n s.lots 0 (word w first_lot) holds.lots
 
   predecessor_in : (n : ℕ) → InWords w (predecessor n w)
-  predecessor_in n = rw r (within first_record w n (last_below n 0 s.lots) sized.long holds.room (prior n))
+  predecessor_in n = rw r (within first_record w n (last_below n 0 s.lots) (long_enough w size) holds.room (prior n))
 
   front : Front (word w next_unused) (word w first_free)
   front = front_of w (word w next_unused) (word w first_free) s.free holds.begun holds.free
@@ -96,7 +96,7 @@ module _ (w : List ℕ) (s : Contents) (size : size_ok w ≡ true) (r : read w �
     -- strike
     pub can_strike : length l.inspections ≢ 0 → Striking w l.at
     can_strike some_inspection = record {
-      freeing = freeing 1 (omega (arith, sized.long));
+      freeing = freeing 1 (omega (arith, long_enough w size));
       after_header = lot_after_header;
       inside = inside;
       some_inspection = go l.inspections on_chain.inspections some_inspection;
@@ -125,7 +125,7 @@ module _ (w : List ℕ) (s : Contents) (size : size_ok w ≡ true) (r : read w �
 
     totals_fit : closed_lots w < most_closed → TotalsFit w (lot_answer w l) (counts (history l))
     totals_fit more = record {
-      long = sized.long;
+      long = long_enough w size;
       lots = omega (arith, one_total w (lot_answer w l));
       good = omega (arith, few_units, holds.units_bound);
       marginal = omega (arith, few_units, holds.units_bound);

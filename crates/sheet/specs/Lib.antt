@@ -4,3 +4,4 @@ pub mod Locating
 pub mod Estimating
 pub mod Granting
 pub mod Sharing
+pub mod Carrying

@@ -13,7 +13,7 @@ use Rattle.sheet.specs.declared.chain.Chain.{Chain}
 use Rattle.sheet.specs.declared.chain.Part.{Part}
 use Rattle.sheet.specs.declared.survey.Found.{Found}
 use Rattle.plan.specs.Sample.{highest_class}
-use Rattle.sheetmodel.specs.Layout.{least_size, greatest_size, word, field, next, records, next_unused, free_tag, closed_lots, closed_units, most_closed}
+use Rattle.sheetmodel.specs.Layout.{greatest_size, shares_start, word, field, next, records, next_unused, free_tag, closed_lots, closed_units, most_closed}
 use Rattle.sheetmodel.specs.Contents.{Inspection, Lot, Contents, classes, records_of, find}
 use Rattle.sheetmodel.specs.Read.{in_use, read_inspections, undecided, all_undecided_before}
 use Rattle.sheetmodel.specs.Calls.{last_below}
@@ -22,9 +22,9 @@ use Rattle.sheetmodel.specs.Calls.{last_below}
 abbrev pub record_at : List ℕ → ℕ → Record
 record_at w j = record { value = field w j 0; next = field w j 1; link = field w j 2; tag = field w j 3 }
 
--- 64 to 65,536 words, and no record in use beyond them
+-- the header before the shares, which both layouts have, at most 65,536 words, and no record in use beyond them
 pub record Sized (w : List ℕ) : Type 0 where
-  pub long : least_size ≤ length w
+  pub long : shares_start ≤ length w
   pub short : length w ≤ greatest_size
   pub room : word w next_unused ≤ records w
 

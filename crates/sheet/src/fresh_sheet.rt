@@ -6,8 +6,8 @@ ghost use Rattle.sheetmodel.specs.Layout.{least_size};
 ghost use Rattle.sheetmodel.specs.Calls.{fresh, fresh_words};
 
 use crate::layout::{
-    FIRST_FREE, FIRST_LOT, FIRST_RECORD, NEXT_UNUSED, OFFICES, PLAN_START, SHARES_START,
-    STAGE_COUNT,
+    FIRST_FREE, FIRST_LOT, FIRST_RECORD, LEAST_SIZE, NEXT_UNUSED, OFFICES, PLAN_START,
+    SHARES_START, STAGE_COUNT,
 };
 use crate::size::{Sheet, size_ok};
 use plan::Refusal;
@@ -26,12 +26,12 @@ fn put_header(sheet: &mut [u32], plan: &[u32], shares: &[u32; 16])
     sheet[SHARES_START..SHARES_START + OFFICES].copy_from_slice(shares);
 }
 
-#[tactic(auto, using(crate::proofs::FreshOutcome::wrong_size, crate::proofs::FreshOutcome::not_admitted, crate::proofs::FreshOutcome::no_fit, crate::proofs::FreshOutcome::granted))]
+#[tactic(auto, using(crate::proofs::FreshOutcome::wrong_size, crate::proofs::FreshOutcome::not_admitted, crate::proofs::FreshOutcome::too_many_shares, crate::proofs::FreshOutcome::granted))]
 pub fn fresh(sheet: &mut [u32], plan: &[u32], shares: &[u32; 16]) -> Result<(), Refusal>
     ensures value { result ≡ (fresh plan.now shares.now sheet.old).reply }
     ensures sheet_after { sheet.new ≡ (fresh plan.now shares.now sheet.old).words }
 {
-    if !size_ok(sheet) {
+    if !size_ok(sheet, LEAST_SIZE) {
         return Err(Refusal::Size);
     }
     if !plan::admitted(plan) {

@@ -1,6 +1,7 @@
-// The header of a sheet: is it that of an intact one? Document 01, "Sheet".
+// The header of a sheet: is it that of an intact one? Document 01, "Sheet". The words before the shares are
+// those of both layouts.
 ghost use Rattle.std.specs.Prelude.{◌≡◌, ◌+◌, ◌*◌, ◌≤◌, length};
-ghost use Rattle.sheetmodel.specs.Layout.{least_size, greatest_size, word, stage_count, plan_start, plan_words, unused_stages};
+ghost use Rattle.sheetmodel.specs.Layout.{greatest_size, shares_start, word, stage_count, plan_start, plan_words, unused_stages};
 ghost use Rattle.sheetmodel.specs.Read.{all_zero, header_ok};
 ghost use Rattle.sheet.specs.Survey.{totals_ok};
 
@@ -16,7 +17,7 @@ use crate::sums::sum_of;
 #[derive(Clone, Copy)]
 pub struct Header<'a> {
     pub words: &'a [u32],
-    pub ghost long: { least_size ≤ length words.now },
+    pub ghost long: { shares_start ≤ length words.now },
     pub ghost few: { word words.now stage_count ≤ 7 },
 }
 

@@ -1,6 +1,9 @@
 // The places of the words in a sheet's header, and the fixed numbers of a sheet. Document 01, "Sheet";
-// document 02, change 7.
+// document 02, changes 7 and 8.
 pub const LEAST_SIZE: usize = 64;
+
+// before offices had shares
+pub const OLD_LEAST_SIZE: usize = 48;
 
 pub const GREATEST_SIZE: usize = 65536;
 
@@ -31,6 +34,9 @@ pub const OFFICES: usize = 16;
 
 // the first record after the header
 pub const FIRST_RECORD: u32 = 15;
+
+// before offices had shares: the header ended with the totals
+pub const OLD_FIRST_RECORD: u32 = 11;
 
 // the last word of every free record
 pub const FREE_TAG: u32 = 4294967295;

@@ -3,6 +3,7 @@
 // `as` stands where std has no From, to and from usize, and where, tried, a proof of sums did not close by `from`.
 #![tactic(auto)]
 
+mod carrying;
 mod chain;
 mod closing;
 mod estimating;
@@ -26,6 +27,7 @@ mod survey;
 mod totals;
 mod writing;
 
+pub use carrying::carry;
 pub use closing::close;
 pub use estimating::estimate;
 pub use fresh_sheet::fresh;

@@ -8,7 +8,7 @@ ghost use Rattle.sheetmodel.specs.Calls.{standing};
 ghost use Rattle.sheet.specs.Locating.{located};
 ghost use Rattle.sheet.specs.Sharing.{CountedOn};
 
-use crate::layout::FIRST_RECORD;
+use crate::layout::{FIRST_RECORD, LEAST_SIZE};
 use crate::size::{Sheet, size_ok};
 use crate::survey::Found;
 use plan::Refusal;
@@ -20,7 +20,7 @@ pub fn locate_and_count(sheet: &[u32], lot: u32, held: &mut [u32; 16]) -> Result
     ensures value { result ≡ located lot sheet.now [] }
     ensures counted_on { CountedOn sheet.now result held.new }
 {
-    if !size_ok(sheet) {
+    if !size_ok(sheet, LEAST_SIZE) {
         return Err(Refusal::Size);
     }
     let sheet = Sheet { words: sheet };

@@ -1,7 +1,7 @@
 // Offices and their shares of the records: which shares a sheet may have, what an office holds, and whether a
 // record may be taken. Document 02, change 7.
 ghost use Rattle.std.specs.Prelude.{◌≡◌, ◌+◌, ◌-◌, ◌≤◌, length, leb};
-ghost use Rattle.sheetmodel.specs.Layout.{largest, word, records, first_record, offices, share};
+ghost use Rattle.sheetmodel.specs.Layout.{least_size, largest, word, records, first_record, offices, share};
 ghost use Rattle.sheetmodel.specs.Offices.{office, added_up, shares_fit, spare, may_take};
 ghost use Rattle.sheetmodel.specs.Calls.{contents};
 ghost use Rattle.sheet.specs.Sharing.{WholeSheet, HeldBy, with_lot_held};
@@ -15,6 +15,7 @@ use crate::sums::sum_of;
 impl Sheet<'_> {
     // Are there as many records after the header?
     fn has_records(self, n: u64) -> bool
+        requires { least_size ≤ length self.words.now }
         ensures { result ≡ leb n (records self.entry.words.now - first_record) }
     {
         n <= record_count(self.words) as u64 - u64::from(FIRST_RECORD)
@@ -22,6 +23,7 @@ impl Sheet<'_> {
 
     // Do the shares in the header add to no more than the records after it?
     pub fn shares_fit(self) -> bool
+        requires { least_size ≤ length self.words.now }
         ensures { result ≡ shares_fit (share self.entry.words.now) self.entry.words.now }
     {
         self.has_records(sum_of(&self.words[SHARES_START..SHARES_START + OFFICES]))
@@ -30,6 +32,7 @@ impl Sheet<'_> {
     // Would these?
     #[tactic(auto, unfolding(sheetmodel::specs::Offices::shares_fit))]
     pub fn given_shares_fit(self, shares: &[u32; 16]) -> bool
+        requires { least_size ≤ length self.words.now }
         ensures { result ≡ shares_fit (word shares.now) self.entry.words.now }
     {
         self.has_records(sum_of(shares))

@@ -112,7 +112,9 @@ impl Records<'_> {
 }
 
 impl Sheet<'_> {
-    // The survey for the lot number that is sought. `first` is the first record after the header.
+    // The survey for the lot number that is sought. `first` is the first record after the header. Compiled into its two
+    // callers: as a function of its own, looks on short lots took 3 of 100 longer.
+    #[inline(always)]
     pub fn survey(self, first: u32, sought: u32, held: &mut [u32; 16]) -> Option<Found>
         requires { held.old ≡ replicate offices 0 }
         ensures value { result ≡ survey_of sought (read_from first self.entry.words.now) }

@@ -6,7 +6,7 @@ use Rattle.plan.specs.Plan.{stages, admitted}
 use Rattle.plan.proofs.Promise.{shape}
 use Rattle.std.specs.Prelude.{Option, Some, None}
 use Rattle.sheet.specs.declared.survey.Found.{Found}
-use Rattle.sheetmodel.specs.Layout.{least_size, greatest_size, word, records, next_unused, first_lot, first_free, plan_words}
+use Rattle.sheetmodel.specs.Layout.{shares_start, greatest_size, word, records, next_unused, first_lot, first_free, plan_words}
 use Rattle.sheetmodel.specs.Read.{depth, read_lots, read_free, read_from, header_ok}
 use Rattle.sheet.specs.Survey.{Sized, nothing_found, lots_survey, free_of, survey_of}
 use Rattle.sheet.proofs.HeaderSteps.{few_stages}
@@ -21,7 +21,7 @@ record Header (w : List ℕ) : Type 0 where
 header : (first : ℕ) (w : List ℕ) → header_ok first w ≡ true → Header w
 header first w e = record { plan = search (and_left, and_right) depth 10; room = leb-true (word w next_unused) (records w) (search (and_left, and_right) depth 10) }
 
-sized : (first : ℕ) (w : List ℕ) → least_size ≤ length w → length w ≤ greatest_size → header_ok first w ≡ true → Sized w
+sized : (first : ℕ) (w : List ℕ) → shares_start ≤ length w → length w ≤ greatest_size → header_ok first w ≡ true → Sized w
 sized first w long short e = record { long = long; short = short; room = (header first w e).room }
 
 -- what the survey gives, by the lots v of the plan p and the free records k

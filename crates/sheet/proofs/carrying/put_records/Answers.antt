@@ -6,20 +6,11 @@ use lib.Seq.{paste, paste-zero}
 use Rattle.sheetmodel.specs.Layout.{word, next_unused, header_size, old_first_record}
 use Rattle.sheetmodel.specs.Carry.{carried_records}
 use Rattle.sheetmodel.proofs.ForSheet.{raised_length}
-use Rattle.sheet.proofs.CarryWords.{raised_to, one_raised}
+use Rattle.sheet.proofs.CarryWords.{raised_to}
 use Rattle.sheet.proofs.carrying.put_records.Goals as goal
 
 pub loop-j-init : goal.loop-j-init
 loop-j-init c = (omega arith, c.requires.begun, refl, paste-zero c.args.sheet.now header_size (carried_records c.args.old.now))
-
-pub loop-j-preserved : goal.loop-j-preserved
-loop-j-preserved c =
-    let l = c.loop-j in (
-      omega arith,
-      omega arith,
-      c.put_raised.auto.sheet ∙ l.invariant.2,
-      c.put_raised.ensures ∙ one_raised c.args.sheet.now c.args.old.now c.requires l.j l.invariant.0 (omega arith) l.invariant.3,
-    )
 
 pub returns : goal.returns
 returns c =

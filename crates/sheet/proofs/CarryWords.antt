@@ -1,27 +1,20 @@
--- A carried sheet, written part by part: the indexes of the header, its stages and totals, the shares and the records. Assumes nothing.
+-- A carried sheet, written part by part: the header's indexes, its stages and totals, the shares, and the records one by one. Assumes
+-- nothing.
 use Prim.Native.Nat.{ℕ, ◌+◌, ◌-◌, ◌*◌, ◌≤◌, ◌<◌}
 use mathlib.Core.Path.{◌≡◌, refl, sym, ap, ◌∙◌}
 use mathlib.Core.List.{List, [], ◌∷◌, ◌++◌, append_assoc}
 use native.Mathlib.Omega.{arith}
 use lib.ListN.{length, set, take, drop, length-take, length-drop, length-append}
-use lib.Seq.{get_or-drop, paste}
+use lib.Seq.{paste}
 use Rattle.sheetmodel.specs.Layout.{word, field, put_record, next_unused, first_lot, first_free, stage_count, shares_start, header_size, offices, old_first_record}
 use Rattle.sheetmodel.specs.Carry.{raised, carried_header, carried_records, carry_words}
 use Rattle.sheetmodel.proofs.ForSheet.{as_carried, header_length, raised_length, raised_word}
-use Rattle.sheet.specs.Carrying.{Carrying, with_indexes}
-use Rattle.sheet.proofs.Pasted.{one_stored, parted, over, over_all}
+use Rattle.sheet.specs.Carrying.{Carrying}
+use Rattle.sheet.proofs.Pasted.{one_stored, parted, over}
+use borrow.Rule.Slice.PartMut.{put_mid}
+use Rattle.std.proofs.lemmas.Slice.{put_mid-paste}
 
--- ---- a part in the making
-
--- w with the old stages and totals, before the word i
-abbrev pub copied_to : List ℕ → List ℕ → ℕ → List ℕ
-copied_to w old i = paste w stage_count (drop stage_count old) (i - stage_count)
-
-pub one_copied : (w old : List ℕ) {v : List ℕ} (i : ℕ) → shares_start ≤ length w → shares_start ≤ length old → stage_count ≤ i → i < shares_start →
-    v ≡ copied_to w old i → set v i (word old i) ≡ copied_to w old (i + 1)
-one_copied w old i long old_long low high e =
-    one_stored w (drop stage_count old) stage_count (i - stage_count) (i + 1 - stage_count) (omega arith) (omega (arith, length-drop stage_count old)) e (omega arith)
-    (ap (word old) {x = i} {y = stage_count + (i - stage_count)} (omega arith) ∙ sym (get_or-drop stage_count old (i - stage_count) 0)) (omega arith)
+-- ---- records in the making
 
 -- w with the old records before record j, each four later
 abbrev pub raised_to : List ℕ → List ℕ → ℕ → List ℕ
@@ -47,7 +40,11 @@ module _ (w old : List ℕ) (ready : Carrying old w) (j : ℕ) (low : old_first_
       stored 3 (omega arith) (stored 2 (omega arith) (stored 1 (omega arith) (stored 0 (omega arith) (e ∙ ap (paste w header_size (carried_records old)) {x = 4 * i} {y = 4 * i + 0} (omega arith))))) ∙
       ap (paste w header_size (carried_records old)) {x = 4 * i + (3 + 1)} {y = 4 * (j + 1 - old_first_record)} (omega arith)
 
--- ---- the parts joined
+-- ---- the header
+
+-- the next record never used, the first lot and the first free record
+abbrev pub with_indexes : List ℕ → List ℕ → List ℕ
+with_indexes w old = set (set (set w next_unused (word old next_unused + 4)) first_lot (raised (word old first_lot))) first_free (raised (word old first_free))
 
 abbrev indexes : List ℕ → List ℕ
 indexes old = (word old next_unused + 4) ∷ raised (word old first_lot) ∷ raised (word old first_free) ∷ []
@@ -59,32 +56,48 @@ indexes_written (a ∷ []) old long = absurd (omega arith)
 indexes_written (a ∷ b ∷ []) old long = absurd (omega arith)
 
 module _ (old shares w : List ℕ) (sixteen : length shares ≡ offices) (ready : Carrying old w) where
-  abbrev header : List ℕ
-  header = paste (with_indexes w old) stage_count (drop stage_count old) (shares_start - stage_count)
+  -- the words from the number of stages to the totals
+  abbrev room : ℕ
+  room = shares_start - stage_count
 
-  header_is : header ≡ carried_header old ++ drop shares_start w
-  header_is =
-      over (indexes old) (take 41 (drop stage_count w)) (drop shares_start w) (drop stage_count old) stage_count 41
-      (indexes_written w old (omega (arith, ready.room)) ∙ ap (λ (u : List ℕ). indexes old ++ u) (parted w stage_count 41))
-      refl (omega (arith, ready.room, ready.begun, length-take 41 (drop stage_count w), length-drop stage_count w))
+  abbrev kept : List ℕ
+  kept = take room (drop stage_count old)
 
-  abbrev shared : List ℕ
-  shared = paste header shares_start shares offices
+  kept_length : length kept ≡ room
+  kept_length = omega (arith, ready.long, length-take room (drop stage_count old), length-drop stage_count old)
 
-  shared_is : shared ≡ carried_header old ++ (shares ++ drop header_size w)
-  shared_is =
-      over_all (carried_header old) (take offices (drop shares_start w)) (drop header_size w) shares shares_start offices
-      (header_is ∙ ap (λ (u : List ℕ). carried_header old ++ u) (parted w shares_start offices))
+  stages_written : paste (with_indexes w old) stage_count kept room ≡ carried_header old ++ drop shares_start w
+  stages_written =
+      over (indexes old) (take room (drop stage_count w)) (drop shares_start w) kept stage_count room
+      (indexes_written w old (omega (arith, ready.room)) ∙ ap (λ (u : List ℕ). indexes old ++ u) (parted w stage_count room))
+      refl (omega (arith, ready.room, ready.begun, length-take room (drop stage_count w), length-drop stage_count w)) kept_length
+
+  header_written : paste (paste (with_indexes w old) stage_count kept room) shares_start shares offices ≡ carried_header old ++ (shares ++ drop header_size w)
+  header_written =
+      over (carried_header old) (take offices (drop shares_start w)) (drop header_size w) shares shares_start offices
+      (stages_written ∙ ap (λ (u : List ℕ). carried_header old ++ u) (parted w shares_start offices))
       (header_length old ready.long) (omega (arith, ready.room, ready.begun, length-take offices (drop shares_start w), length-drop shares_start w)) sixteen
 
-  pub all_carried : paste shared header_size (carried_records old) (length (carried_records old)) ≡ carry_words old shares w
+  -- as the code writes it: the old words and the shares each take the place of as many words
+  pub header_put : (ks ss : List ℕ) → ks ≡ kept → ss ≡ shares →
+      put_mid shares_start offices (put_mid stage_count room (with_indexes w old) ks) ss ≡ carried_header old ++ (shares ++ drop header_size w)
+  header_put ks ss ek es =
+      rw (ek, es)
+      (put_mid-paste shares_start offices _ shares shares offices refl refl (sym sixteen) ∙
+      ap (λ (v : List ℕ). paste v shares_start shares offices) (put_mid-paste stage_count room (with_indexes w old) kept kept room refl refl (sym kept_length)) ∙
+      header_written)
+
+  -- ---- the records after it
+
+  pub records_written : {v : List ℕ} → v ≡ carried_header old ++ (shares ++ drop header_size w) →
+      paste v header_size (carried_records old) (length (carried_records old)) ≡ carry_words old shares w
   unfolding carry_words
-  all_carried =
+  records_written e =
       let n = length (carried_records old) in
       let front : List ℕ = carried_header old ++ shares in
       let is : n ≡ 4 * (word old next_unused - old_first_record) = raised_length old old_first_record (word old next_unused - old_first_record) in
-      over_all front (take n (drop header_size w)) (drop (header_size + n) w) (carried_records old) header_size n
-      (shared_is ∙ sym (append_assoc (carried_header old) shares (drop header_size w)) ∙ ap (λ (u : List ℕ). front ++ u) (parted w header_size n))
+      over front (take n (drop header_size w)) (drop (header_size + n) w) (carried_records old) header_size n
+      (e ∙ sym (append_assoc (carried_header old) shares (drop header_size w)) ∙ ap (λ (u : List ℕ). front ++ u) (parted w header_size n))
       (omega (arith, length-append (carried_header old) shares, header_length old ready.long))
       (omega (arith, ready.room, ready.begun, length-take n (drop header_size w), length-drop header_size w)) refl ∙
       append_assoc (carried_header old) shares (carried_records old ++ drop (header_size + n) w) ∙
