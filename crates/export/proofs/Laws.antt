@@ -28,6 +28,7 @@ of_reply (refused n) not = (λ e. not (ap refused e), λ g. absurd g)
 pub zero_law : ZeroLaw
 zero_law = record {
   fresh = λ p shares w. of_reply _ ((demand_1 w).fresh p shares).by_number.never_zero;
+  carrying = λ old shares w. of_reply _ ((demand_1 w).carrying old shares).by_number.never_zero;
   opening = λ n w. of_reply _ ((demand_1 w).opening n).by_number.never_zero;
   inspecting = λ n c w. of_reply _ ((demand_1 w).inspecting n c).by_number.never_zero;
   striking = λ n w. of_reply _ ((demand_1 w).striking n).by_number.never_zero;

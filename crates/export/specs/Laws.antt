@@ -5,6 +5,7 @@ use Rattle.plan.specs.Reply.{Reply, granted, refused}
 use Rattle.sheetmodel.specs.Layout.{word}
 use Rattle.sheetmodel.specs.Reply.{done_reply, look_reply, tally_reply, estimate_reply}
 use Rattle.sheetmodel.specs.Calls.{fresh, open_lot, inspect, strike, close, look, tally}
+use Rattle.sheetmodel.specs.Carry.{carry}
 use Rattle.sheetmodel.specs.Estimate.{estimate}
 use Rattle.judge.specs.Judge.{judged, judge_reply}
 use Rattle.chance.specs.declared.mean.Weights.{Weights}
@@ -23,6 +24,7 @@ ZeroExactly r = (number r ≡ 0) ↔ Granted r
 -- of every call, on any words
 pub record ZeroLaw : Type 0 where
   pub fresh : (p shares w : List ℕ) → ZeroExactly (done_reply (fresh p shares w).reply)
+  pub carrying : (old shares w : List ℕ) → ZeroExactly (done_reply (carry old shares w).reply)
   pub opening : (n : ℕ) (w : List ℕ) → ZeroExactly (done_reply (open_lot n w).reply)
   pub inspecting : (n c : ℕ) (w : List ℕ) → ZeroExactly (done_reply (inspect n c w).reply)
   pub striking : (n : ℕ) (w : List ℕ) → ZeroExactly (done_reply (strike n w).reply)

@@ -12,5 +12,6 @@ mod sheet_calls;
 pub use chances::{haq_chance, haq_chart, haq_lot_chance, haq_units, haq_units_chart};
 pub use lists::haq_judge;
 pub use sheet_calls::{
-    haq_close, haq_estimate, haq_fresh, haq_inspect, haq_look, haq_open, haq_strike, haq_tally,
+    haq_carry, haq_close, haq_estimate, haq_fresh, haq_inspect, haq_look, haq_open, haq_strike,
+    haq_tally,
 };

@@ -1,6 +1,7 @@
-// The calls on a sheet. Document 01, "Sheet" and "Refused".
+// The calls on a sheet. Document 01, "Sheet" and "Refused"; document 02, change 8.
 ghost use Rattle.std.specs.Prelude.{◌≡◌};
 ghost use Rattle.sheetmodel.specs.Calls.{fresh, open_lot, inspect, strike, close, look, tally};
+ghost use Rattle.sheetmodel.specs.Carry.{carry};
 ghost use Rattle.sheetmodel.specs.Estimate.{estimate};
 ghost use Rattle.sheetmodel.specs.Reply.{done_reply, look_reply, tally_reply, estimate_reply};
 ghost use Rattle.export.specs.Returned.{number, left};
@@ -23,6 +24,15 @@ pub extern "C" fn haq_fresh(sheet: &mut [u32], plan: &[u32], shares: &[u32; 16])
     ensures sheet_after { sheet.new ≡ (fresh plan.now shares.now sheet.old).words }
 {
     number_of(sheet::fresh(sheet, plan, shares))
+}
+
+// The old sheet is only read.
+#[unsafe(no_mangle)]
+pub extern "C" fn haq_carry(old: &[u32], sheet: &mut [u32], shares: &[u32; 16]) -> u32
+    ensures value { result ≡ number (done_reply (carry old.now shares.now sheet.old).reply) }
+    ensures sheet_after { sheet.new ≡ (carry old.now shares.now sheet.old).words }
+{
+    number_of(sheet::carry(old, sheet, shares))
 }
 
 #[unsafe(no_mangle)]
