@@ -12,6 +12,14 @@ fn shared(rt: &impl Print, words: &mut [u32], list: &[u32]) -> io::Result<()> {
     reply(rt, sheet::fresh(words, plan, shares), words)
 }
 
+// `y` and 16 shares: the old sheet is carried into the words.
+pub fn carry(rt: &impl Print, old: &[u32], words: &mut [u32], list: &[u32]) -> io::Result<()> {
+    match list.try_into() {
+        Ok(shares) => reply(rt, sheet::carry(old, words, shares), words),
+        Err(_) => bad_line(rt),
+    }
+}
+
 // A command of this kind, with the numbers of its line.
 pub fn answer(rt: &impl Print, kind: u8, list: &[u32], words: &mut [u32]) -> io::Result<()> {
     match (kind, list) {
@@ -24,6 +32,7 @@ pub fn answer(rt: &impl Print, kind: u8, list: &[u32], words: &mut [u32]) -> io:
         (b'l', [lot]) => reply(rt, sheet::look(words, *lot), words),
         (b't', []) => reply(rt, sheet::tally(words), words),
         (b'e', [lot]) => reply(rt, sheet::estimate(words, *lot), words),
+        (b'w', [index, several @ ..]) => fill::run(rt, words, *index, several),
         (b'p', [index, word]) => fill::word(rt, words, *index, *word),
         (b'a', [index, stride, count, start, step]) => {
             fill::several(rt, words, [*index, *stride, *count, *start, *step])

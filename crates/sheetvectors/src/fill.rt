@@ -23,6 +23,14 @@ pub fn word(rt: &impl Print, words: &mut [u32], index: u32, value: u32) -> io::R
     println!(rt; "ok")
 }
 
+// `w INDEX WORD ..`: the words of the line one after another, as far as the sheet goes.
+pub fn run(rt: &impl Print, words: &mut [u32], index: u32, list: &[u32]) -> io::Result<()> {
+    for (word, value) in words.iter_mut().skip(index as usize).zip(list) {
+        *word = *value;
+    }
+    println!(rt; "ok")
+}
+
 // `a INDEX STRIDE COUNT START STEP`: COUNT words, the first at INDEX, each STRIDE after the one before. It ends early
 // where a place would be outside the sheet. START, and by how much each further word is more, are modulo 2^32.
 pub fn several(rt: &impl Print, words: &mut [u32], list: [u32; 5]) -> io::Result<()> {
