@@ -5,6 +5,7 @@ use reference::model::chance::{self, Bounds, Weights};
 use reference::model::class::BLANK;
 use reference::model::expected_units;
 use reference::model::lot_chance::Lot;
+use reference::model::offices::Shares;
 use reference::model::plan::Plan;
 use reference::model::plan_calls::{ChanceCall, LotChanceCall, PlanCalls};
 use reference::model::sheet::Sheet;
@@ -20,8 +21,10 @@ type Call = fn(&[u32], [u32; 3], &mut Lent<u64>) -> Answer;
 
 #[derive(Default)]
 pub struct Comparer {
-    /// The reference's sheet. The library gets a copy for each call.
+    /// The reference's sheet, and the words of the one put aside. The library gets a copy
+    /// for each call.
     pub sheet: Sheet,
+    pub aside: Vec<u32>,
     /// Random plans with marked stages, and such plans changed so that they are not
     /// admitted.
     pub marked: u64,
@@ -39,6 +42,10 @@ impl Comparer {
         self.sheet = Sheet::new(words);
     }
 
+    pub fn exchange(&mut self) {
+        std::mem::swap(&mut self.sheet.words, &mut self.aside);
+    }
+
     pub fn on_sheet(&mut self, call: &SheetCall) -> Compared {
         let before = self.sheet.words.clone();
         let mut lent = Lent::new(&before, PATTERN);
@@ -49,7 +56,27 @@ impl Comparer {
         }
         let what = || format!("{call:?} on {}", text(&before));
         self.same(call.name(), &answer, reply, what)?;
-        if lent.run() != self.sheet.words || !lent.kept_beyond(lent.run().len()) {
+        self.same_words(&lent, what)
+    }
+
+    /// Carries the sheet put aside into the sheet; gives the number of the reply.
+    pub fn carry(&mut self, shares: &Shares) -> Result<u32, String> {
+        let (before, old) = (self.sheet.words.clone(), self.aside.clone());
+        let mut lent = Lent::new(&before, PATTERN);
+        let answer = library::carry(&old, &mut lent, shares);
+        let reply = self.sheet.carry(&old, shares);
+        let what = || {
+            let (old, second) = (text(&old), text(&before));
+            format!("carry with {shares:?} of {old} into {second}")
+        };
+        self.same("carry", &answer, reply.map(|()| vec![]), what)?;
+        self.same_words(&lent, what)?;
+        Ok(reply.err().unwrap_or(0))
+    }
+
+    fn same_words(&self, lent: &Lent<u32>, what: impl Fn() -> String) -> Compared {
+        let run = lent.run();
+        if run != self.sheet.words || !lent.kept_beyond(run.len()) {
             return Err(format!("{}: the words differ afterwards", what()));
         }
         Ok(())

@@ -22,6 +22,13 @@ extern "C" {
     fn haq_look(sheet: *const u32, n: usize, lot: u32, out: *mut u32) -> u32;
     fn haq_tally(sheet: *const u32, n: usize, out: *mut u32) -> u32;
     fn haq_estimate(sheet: *const u32, n: usize, lot: u32, out: *mut u64) -> u32;
+    fn haq_carry(
+        old: *const u32,
+        old_n: usize,
+        sheet: *mut u32,
+        n: usize,
+        shares: *const u32,
+    ) -> u32;
     fn haq_judge(plan: *const u32, plan_n: usize, list: *const u8, n: usize, out: *mut u32) -> u32;
     fn haq_chance(
         plan: *const u32,
@@ -169,6 +176,19 @@ fn fresh(words: *mut u32, n: usize, plan: &[u32], shares: &Shares) -> Answer {
     assert!(
         plan.kept() && shares.kept(),
         "fresh wrote to its plan or shares"
+    );
+    answer
+}
+
+pub fn carry(old: &[u32], sheet: &mut Lent<u32>, shares: &Shares) -> Answer {
+    let mut old = Lent::new(old, PATTERN);
+    let mut shares = Lent::new(shares, PATTERN);
+    let (words, n) = (sheet.pointer(), sheet.len());
+    let (from, old_n, lent) = (old.pointer(), old.len(), shares.pointer());
+    let answer = with_words(0, |_| unsafe { haq_carry(from, old_n, words, n, lent) });
+    assert!(
+        old.kept() && shares.kept(),
+        "carry wrote to its old sheet or shares"
     );
     answer
 }

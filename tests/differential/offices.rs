@@ -42,7 +42,7 @@ fn any_shares(comparer: &mut Comparer, random: &mut Random) -> Compared {
 }
 
 /// Any words, few records for each office, all records, and too many.
-fn shares_given(random: &mut Random, length: usize, round: usize) -> Shares {
+pub fn shares_given(random: &mut Random, length: usize, round: usize) -> Shares {
     let records = records(length).saturating_sub(FIRST_RECORD as usize) as u32;
     let offices: Vec<usize> = (0..OFFICES).collect();
     let few = random.between(1, 3);
@@ -123,7 +123,7 @@ fn nearly_full(comparer: &mut Comparer, random: &mut Random) -> Compared {
             shuffled: true,
         };
         let built = full_sheets::sheet(random, length, plan, &fill);
-        let chains = intact(&built.words, &mut Plans::default());
+        let chains = intact(&built.words, NEW, &mut Plans::default());
         let lots = chains.ok_or("the sheet is built in order")?.lots;
         let mut shares = offices::held(&lots).map(|held| held as u32);
         shares[random.index(OFFICES)] += (free + unused) as u32;

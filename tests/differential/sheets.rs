@@ -33,6 +33,8 @@ fn stored_cases(comparer: &mut Comparer) -> Compared {
         match Command::parse(&line)? {
             Command::Call(call) => comparer.on_sheet(&call)?,
             Command::Write(write) => write.make(&mut comparer.sheet.words),
+            Command::Exchange => comparer.exchange(),
+            Command::Carry(shares) => comparer.carry(&shares).map(|_| ())?,
         }
     }
     Ok(())

@@ -1,5 +1,5 @@
-//! A second implementation of 01, the scope document, with changes 1, 2, 4, 5, 6 and 7
-//! of 02, that shares no code with the library under crates/: the test oracle. Each part
+//! A second implementation of 01, the scope document, with changes 1, 2, 4, 5, 6, 7 and
+//! 8 of 02, that shares no code with the library under crates/: the test oracle. Each part
 //! uses those before it.
 //!
 //! - `model`: what these documents say.

@@ -10,10 +10,10 @@
 
 use reference::checks::{selftest, stats};
 use reference::generators::{lots_script, plan_cases, sheet_cases};
+use reference::lines::sheet_lines::Sheets;
 use reference::lines::{plan_lines, sheet_lines};
 use reference::model::lots;
 use reference::model::plan_calls::PlanCalls;
-use reference::model::sheet::Sheet;
 use std::io::{self, BufRead, BufWriter, Read, Write};
 use std::process::ExitCode;
 
@@ -25,7 +25,7 @@ fn main() -> ExitCode {
         Some("cases") => write_lines(plan_cases::all().into_iter().map(Ok)),
         Some("answers") => write_answers(PlanCalls::default(), plan_lines::answer),
         Some("sheet-cases") => write_lines(sheet_cases::all().into_iter().map(Ok)),
-        Some("sheet-answers") => write_answers(Sheet::default(), sheet_lines::answer),
+        Some("sheet-answers") => write_answers(Sheets::default(), sheet_lines::answer),
         Some("lots-script") => write_bytes(&lots_script::all()),
         Some("lots") => write_lots(),
         Some("stats") => stats::write(),

@@ -11,7 +11,7 @@ use crate::lines::sheet_lines::{Command, Write};
 use crate::model::chains::{intact, Lot, Plans};
 use crate::model::class::{blanks, counts, BLANK, HIGHEST};
 use crate::model::judge::Judgement;
-use crate::model::layout::{LEAST_WORDS, MOST_WORDS};
+use crate::model::layout::NEW;
 use crate::model::plan::{Plan, REJECTED};
 use crate::model::plan_calls::PlanCalls;
 use crate::model::sheet::Sheet;
@@ -145,10 +145,9 @@ fn wanted_of_calls() -> Places {
 
 /// The lot of a number, if the sheet is not torn.
 fn lot_of(sheet: &Sheet, plans: &mut Plans, number: u32) -> Option<Lot> {
-    let size = sheet.words.len();
-    let chains = (LEAST_WORDS..=MOST_WORDS)
-        .contains(&size)
-        .then(|| intact(&sheet.words, plans));
+    let chains = NEW
+        .admits(sheet.words.len())
+        .then(|| intact(&sheet.words, NEW, plans));
     let mut lots = chains.flatten()?.lots.into_iter();
     lots.find(|lot| lot.number == number)
 }
@@ -173,6 +172,7 @@ fn places_of_calls(lines: &[String]) -> Result<Places, String> {
                 let after = lot_called(&call).and_then(|lot| lot_of(&sheet, &mut plans, lot));
                 places.extend(place_of_call(&call, number, before, after));
             }
+            _ => return Err(format!("not on one sheet: {line}")),
         }
     }
     Ok(places)

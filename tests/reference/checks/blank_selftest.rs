@@ -7,13 +7,13 @@ use crate::generators::blank_lists::BLANK_JUDGED;
 use crate::generators::lots_script::LISTING;
 use crate::generators::random::Random;
 use crate::generators::{blanks, draw};
-use crate::lines::{fields, sheet_lines};
+use crate::lines::fields;
+use crate::lines::sheet_lines::{self, Sheets};
 use crate::model::earliest::Table;
 use crate::model::judge::judge;
 use crate::model::layout::{place, room, CLASS, FIRST_RECORD};
 use crate::model::lots;
 use crate::model::plan::Plan;
-use crate::model::sheet::Sheet;
 
 /// Gives the number of stops reached on the lists of so many random plans.
 pub fn run(plans: usize, plays: usize) -> Result<usize, String> {
@@ -59,11 +59,11 @@ const REPLIES: &[(&str, &str)] = &[
 const AT_BLANK: usize = place(FIRST_RECORD + 1, CLASS);
 
 fn known_replies() -> Result<(), String> {
-    let mut sheet = Sheet::new(vec![5; room(10)]);
-    sheet_lines::answer(&mut sheet, "f 5 2 3 1 2")?;
+    let mut sheets = Sheets::new(vec![5; room(10)]);
+    sheet_lines::answer(&mut sheets, "f 5 2 3 1 2")?;
     for &(line, expected) in REPLIES {
         let line = line.replace("BLANK", &AT_BLANK.to_string());
-        let answer = sheet_lines::answer(&mut sheet, &line)?;
+        let answer = sheet_lines::answer(&mut sheets, &line)?;
         let (reply, _digest) = answer.rsplit_once(' ').unwrap_or((&answer, ""));
         if reply != expected {
             return Err(format!("{line} gives {reply}, not {expected}"));

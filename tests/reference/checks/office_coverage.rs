@@ -3,9 +3,8 @@
 
 use super::office_places::Met;
 use crate::generators::sheet_cases;
-use crate::lines::sheet_lines;
+use crate::lines::sheet_lines::{self, Sheets};
 use crate::model::layout::{LEAST_WORDS, MOST_WORDS, OFFICES};
-use crate::model::sheet::Sheet;
 
 /// Gives the number of lines, of places that are wanted of them, and of refusals 18 and 19.
 pub fn run() -> Result<[usize; 4], String> {
@@ -31,9 +30,9 @@ const HELD_BACK: [&str; 2] = ["open: refused 19", "inspect: refused 19"];
 fn others_have_no_shares(last: usize) -> Result<(), String> {
     let mut lines = sheet_cases::all();
     lines.truncate(lines.len() - last);
-    let mut sheet = Sheet::default();
+    let mut sheets = Sheets::default();
     for line in &lines {
-        let answer = sheet_lines::answer(&mut sheet, line)?;
+        let answer = sheet_lines::answer(&mut sheets, line)?;
         if ["no 18 ", "no 19 "].iter().any(|no| answer.starts_with(no)) {
             return Err(format!("{line} without shares gets {answer}"));
         }

@@ -14,22 +14,22 @@ use std::collections::{BTreeMap, HashMap};
 pub type Counts = BTreeMap<String, usize>;
 
 /// What the rule asks of a sheet that is not torn.
-struct View {
-    shares: Shares,
-    held: [u64; OFFICES],
-    spare: u64,
+pub struct View {
+    pub shares: Shares,
+    pub held: [u64; OFFICES],
+    pub spare: u64,
     /// Whether records are free, and whether some are unused.
     of: [bool; 2],
     lots: usize,
 }
 
 impl View {
-    fn of(words: &[u32], plans: &mut Plans) -> Option<View> {
-        let size = (LEAST_WORDS..=MOST_WORDS).contains(&words.len());
-        let chains = size.then(|| intact(words, plans)).flatten()?;
+    pub fn of(words: &[u32], plans: &mut Plans) -> Option<View> {
+        let size = NEW.admits(words.len());
+        let chains = size.then(|| intact(words, NEW, plans)).flatten()?;
         let unused = records(words.len()) - words[NEXT_UNUSED] as usize;
         Some(View {
-            shares: offices::shares_of(words),
+            shares: offices::shares_of(words, NEW),
             held: offices::held(&chains.lots),
             spare: (chains.free.len() + unused) as u64,
             of: [!chains.free.is_empty(), unused > 0],
@@ -41,7 +41,7 @@ impl View {
         u64::from(self.shares[office]).saturating_sub(self.held[office])
     }
 
-    fn all_lack(&self) -> u64 {
+    pub fn all_lack(&self) -> u64 {
         (0..OFFICES).map(|office| self.lacking(office)).sum()
     }
 
@@ -49,7 +49,7 @@ impl View {
         self.all_lack() - self.lacking(office)
     }
 
-    fn standing(&self, office: usize) -> &'static str {
+    pub fn standing(&self, office: usize) -> &'static str {
         let (share, held) = (u64::from(self.shares[office]), self.held[office]);
         match share.abs_diff(held) {
             0 if share == 0 => "no share, nothing held",
@@ -96,6 +96,7 @@ impl Met {
         match Command::parse(line)? {
             Command::Write(write) => self.write(&write),
             Command::Call(call) => self.call(&call),
+            _ => return Err(format!("not on one sheet: {line}")),
         }
         Ok(())
     }
@@ -239,7 +240,7 @@ impl Met {
     }
 }
 
-fn text(reply: u32) -> String {
+pub fn text(reply: u32) -> String {
     match reply {
         0 => "granted".to_string(),
         _ => format!("refused {reply}"),

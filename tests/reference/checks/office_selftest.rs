@@ -7,7 +7,7 @@ use crate::generators::draw;
 use crate::generators::hand_written::UNIT;
 use crate::generators::office_draws::{self, shares_of, Offices};
 use crate::generators::random::Random;
-use crate::lines::sheet_lines::{self, Command};
+use crate::lines::sheet_lines::{self, Command, Sheets};
 use crate::model::layout::{room, HEAD, OFFICES, RECORD_WORDS, SHARES};
 use crate::model::offices::{Shares, NO_SHARES};
 use crate::model::sheet::Sheet;
@@ -100,11 +100,11 @@ const REPLIES: &[(&str, &str)] = &[
 ];
 
 fn known_replies() -> Result<(), String> {
-    let mut sheet = Sheet::new(vec![7; room(6)]);
-    let fresh = sheet.fresh(UNIT, &shares_of(&[(1, 2), (2, 2)]));
+    let mut sheets = Sheets::new(vec![7; room(6)]);
+    let fresh = sheets.sheet.fresh(UNIT, &shares_of(&[(1, 2), (2, 2)]));
     fresh.map_err(|number| format!("the shares are refused {number}"))?;
     for &(line, expected) in REPLIES {
-        let answer = sheet_lines::answer(&mut sheet, line)?;
+        let answer = sheet_lines::answer(&mut sheets, line)?;
         let (reply, _digest) = answer.rsplit_once(' ').unwrap_or((&answer, ""));
         if reply != expected {
             return Err(format!("{line} gives {reply}, not {expected}"));
@@ -144,7 +144,7 @@ fn known_sums() -> Result<(), String> {
 }
 
 /// The records of each office, by a look at each lot.
-fn held(sheet: &mut Sheet, lots: &[u32]) -> [u32; OFFICES] {
+pub fn held(sheet: &mut Sheet, lots: &[u32]) -> [u32; OFFICES] {
     let mut held = [0; OFFICES];
     for &lot in lots {
         let shown = sheet.look(lot);
@@ -154,7 +154,7 @@ fn held(sheet: &mut Sheet, lots: &[u32]) -> [u32; OFFICES] {
 }
 
 /// What all offices lack to reach their shares.
-fn lacking(shares: &Shares, held: &[u32; OFFICES]) -> u32 {
+pub fn lacking(shares: &Shares, held: &[u32; OFFICES]) -> u32 {
     let pairs = shares.iter().zip(held).filter(|(share, held)| share > held);
     pairs.map(|(share, held)| share - held).sum()
 }

@@ -8,7 +8,7 @@ use crate::lines::sheet_lines::{Command, Write};
 use crate::model::chains::{intact, Chains, Lot, Plans};
 use crate::model::class::{BLANK, GOOD, HIGHEST};
 use crate::model::layout::{
-    place, records, room, CLASS, HEAD, MOST_WORDS, NEXT_UNUSED, RECORD_WORDS,
+    place, records, room, CLASS, HEAD, MOST_WORDS, NEW, NEXT_UNUSED, RECORD_WORDS,
 };
 use crate::model::plan::{Plan, Stage, BAD, MOST_UNITS, NONGOOD};
 use crate::model::sheet::Sheet;
@@ -20,7 +20,7 @@ pub fn run() -> Result<[usize; 2], String> {
     let lines = sheet_cases::only_units();
     let mut met = Met::default();
     for line in &lines {
-        met.command(&Command::parse(line)?);
+        met.command(&Command::parse(line)?)?;
     }
     let wanted = wanted();
     let missing: Vec<&String> = wanted.difference(&met.places).collect();
@@ -177,7 +177,7 @@ struct Met {
 }
 
 impl Met {
-    fn command(&mut self, command: &Command) {
+    fn command(&mut self, command: &Command) -> Result<(), String> {
         match command {
             Command::Write(write) => {
                 self.past.write(write);
@@ -189,11 +189,13 @@ impl Met {
                     self.past.granted(call);
                 }
             }
+            _ => return Err("a line is not on one sheet".to_string()),
         }
         if let Some(chains) = chains(&self.sheet.words, &mut self.plans) {
             self.past.in_order.clone_from(&self.sheet.words);
             self.past.records(&chains);
         }
+        Ok(())
     }
 
     /// A torn sheet is taken as it was before.
@@ -218,7 +220,7 @@ impl Met {
 /// The chains of a sheet that is not torn, whatever its size.
 fn chains(words: &[u32], plans: &mut Plans) -> Option<Chains> {
     let head = words.len() >= HEAD;
-    head.then(|| intact(words, plans)).flatten()
+    head.then(|| intact(words, NEW, plans)).flatten()
 }
 
 fn state(lot: &Lot) -> &'static str {
@@ -253,7 +255,7 @@ impl Past {
             Write::Word { index, .. } => {
                 self.written.insert(index as usize);
             }
-            Write::Words(_) => {}
+            Write::Words(_) | Write::Run { .. } => {}
         }
     }
 

@@ -2,7 +2,7 @@
 
 use crate::generators::{plan_cases, sheet_cases};
 use crate::lines::plan_lines::Case;
-use crate::lines::sheet_lines::Command;
+use crate::lines::sheet_lines::{Command, Sheets};
 use crate::model::chance::{Bounds, Weights, UNITS};
 use crate::model::class::BLANK;
 use crate::model::earliest::{few_completions, Stop, Table};
@@ -10,7 +10,6 @@ use crate::model::judge::Judgement;
 use crate::model::lot_chance::{self, Lot};
 use crate::model::plan::{broken, Counts, Plan, BOTH, STAGE_WORDS};
 use crate::model::plan_calls::PlanCalls;
-use crate::model::sheet::Sheet;
 use crate::model::Reply;
 use std::collections::{BTreeMap, HashSet};
 
@@ -39,15 +38,25 @@ fn print(lines: &[String], tally: Tally) {
 /// The calls on sheets by their replies.
 fn sheets() -> Result<(), String> {
     let lines = sheet_cases::all();
-    let mut sheet = Sheet::default();
+    let mut sheets = Sheets::default();
     let mut tally = Tally::new();
     for line in &lines {
-        match Command::parse(line)? {
-            Command::Write(write) => write.make(&mut sheet.words),
-            Command::Call(call) => match call.make(&mut sheet) {
-                Ok(_) => count(&mut tally, format!("{}: granted", call.name())),
-                Err(number) => refused(&mut tally, call.name(), number),
-            },
+        let sheet = &mut sheets.sheet;
+        let (name, refusal) = match Command::parse(line)? {
+            Command::Write(write) => {
+                write.make(&mut sheet.words);
+                continue;
+            }
+            Command::Exchange => {
+                sheets.exchange();
+                continue;
+            }
+            Command::Call(call) => (call.name(), call.make(sheet).err()),
+            Command::Carry(shares) => ("carry", sheet.carry(&sheets.aside, &shares).err()),
+        };
+        match refusal {
+            None => count(&mut tally, format!("{name}: granted")),
+            Some(number) => refused(&mut tally, name, number),
         }
     }
     print(&lines, tally);

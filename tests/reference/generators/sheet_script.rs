@@ -2,19 +2,19 @@
 //!
 //! A field may be a number of model/layout.rs by name: the place of a word of the
 //! head, as `first-lot`; `@0`, the index of the first record after the head;
-//! `@0.1`, the place of word 1 of it; `record`, the words of a record.
+//! `@0.1`, the place of word 1 of it; `record`, the words of a record. `^0` and `^0.1` are
+//! alike on an old sheet (02, change 8).
 
 use super::random::Random;
-use crate::lines::sheet_lines;
+use crate::lines::sheet_lines::{self, Sheets};
 use crate::model::layout::*;
 use crate::model::offices::{Shares, NO_SHARES};
-use crate::model::sheet::Sheet;
 use crate::model::sheet_call::SheetCall;
 
-/// The lines so far, and the sheet as they leave it.
+/// The lines so far, and the sheets as they leave them.
 pub struct Script {
     lines: Vec<String>,
-    sheet: Sheet,
+    sheets: Sheets,
     pub random: Random,
 }
 
@@ -22,7 +22,7 @@ impl Script {
     pub fn new(seed: u64) -> Script {
         Script {
             lines: Vec::new(),
-            sheet: Sheet::default(),
+            sheets: Sheets::default(),
             random: Random::new(seed),
         }
     }
@@ -31,7 +31,7 @@ impl Script {
     pub fn line(&mut self, line: &str) -> String {
         let fields: Vec<String> = line.split(' ').map(numbered).collect();
         let line = fields.join(" ");
-        let answer = sheet_lines::answer(&mut self.sheet, &line);
+        let answer = sheet_lines::answer(&mut self.sheets, &line);
         self.lines.push(line);
         answer.expect("the lines are commands")
     }
@@ -101,7 +101,12 @@ impl Script {
     }
 
     pub fn words(&self) -> &[u32] {
-        &self.sheet.words
+        &self.sheets.sheet.words
+    }
+
+    /// The words of the sheet put aside.
+    pub fn aside(&self) -> &[u32] {
+        &self.sheets.aside
     }
 
     /// Writes each word back that is not as it was.
@@ -119,7 +124,7 @@ impl Script {
 }
 
 /// A field with a name as its number.
-fn numbered(field: &str) -> String {
+pub fn numbered(field: &str) -> String {
     let number = match field {
         "next-unused" => NEXT_UNUSED,
         "first-lot" => FIRST_LOT,
@@ -128,22 +133,23 @@ fn numbered(field: &str) -> String {
         "closed-lots" => CLOSED_LOTS,
         "record" => RECORD_WORDS,
         "free-tag" => FREE as usize,
-        _ => match field.strip_prefix('@') {
-            Some(record) => record_or_word(record),
-            None => return field.to_string(),
+        _ => match (field.strip_prefix('@'), field.strip_prefix('^')) {
+            (Some(record), _) => record_or_word(record, NEW),
+            (_, Some(record)) => record_or_word(record, OLD),
+            _ => return field.to_string(),
         },
     };
     number.to_string()
 }
 
 /// A record counted from the first after the head, or the place of its word.
-fn record_or_word(text: &str) -> usize {
+fn record_or_word(text: &str, layout: Layout) -> usize {
     let (record, word) = match text.split_once('.') {
         Some((record, word)) => (record, Some(word)),
         None => (text, None),
     };
     let offset: i32 = record.parse().expect("a record is a number");
-    let record = FIRST_RECORD.wrapping_add_signed(offset);
+    let record = layout.first_record.wrapping_add_signed(offset);
     match word {
         Some(word) => place(record, word.parse().expect("a word is a number")),
         None => record as usize,

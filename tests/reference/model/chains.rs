@@ -1,4 +1,5 @@
-//! A sheet as its chains have it; torn ones have none (01 "Sheet"; 02, change 7).
+//! A sheet as its chains have it, under a layout; torn ones have none (01 "Sheet"; 02,
+//! changes 7 and 8).
 
 use super::class::HIGHEST;
 use super::earliest::{Stop, Table};
@@ -102,14 +103,14 @@ fn totals_hold(words: &[u32]) -> bool {
     lots <= u64::from(MOST_CLOSED) && units <= MOST_UNITS * lots
 }
 
-/// The records of a chain from its first index; None if an index is outside 15
-/// to word 0 less 1, or if the chain is longer than the records in use.
-fn chain(words: &[u32], first: u32) -> Option<Vec<u32>> {
+/// The records of a chain from its first index; None if an index is outside the first
+/// record to word 0 less 1, or if the chain is longer than the records in use.
+fn chain(words: &[u32], layout: Layout, first: u32) -> Option<Vec<u32>> {
     let mut found = Vec::new();
     let mut at = first;
     while at != 0 {
         let used = words[NEXT_UNUSED];
-        if at < FIRST_RECORD || at >= used || found.len() as u64 >= u64::from(used) {
+        if at < layout.first_record || at >= used || found.len() as u64 >= u64::from(used) {
             return None;
         }
         found.push(at);
@@ -127,14 +128,14 @@ fn falls_to_one(words: &[u32], chain: &[u32], field: usize) -> bool {
         .all(|(&at, number)| word(words, at, field) == number)
 }
 
-fn free_chain(words: &[u32]) -> Option<Vec<u32>> {
-    let free = chain(words, words[FIRST_FREE])?;
+fn free_chain(words: &[u32], layout: Layout) -> Option<Vec<u32>> {
+    let free = chain(words, layout, words[FIRST_FREE])?;
     let tags = |&at: &u32| word(words, at, ZERO_OF_FREE) == 0 && word(words, at, TAG) == FREE;
     (falls_to_one(words, &free, DEPTH) && free.iter().all(tags)).then_some(free)
 }
 
-fn read_lot(words: &[u32], judging: &Judging, record: u32) -> Option<Lot> {
-    let inspections = chain(words, word(words, record, NEWEST))?;
+fn read_lot(words: &[u32], layout: Layout, judging: &Judging, record: u32) -> Option<Lot> {
+    let inspections = chain(words, layout, word(words, record, NEWEST))?;
     let of_lot =
         |&at: &u32| word(words, at, CLASS) <= u32::from(HIGHEST) && word(words, at, LOT) == record;
     let number = word(words, record, NUMBER);
@@ -158,26 +159,27 @@ fn read_lot(words: &[u32], judging: &Judging, record: u32) -> Option<Lot> {
 }
 
 /// None is torn.
-pub fn intact(words: &[u32], plans: &mut Plans) -> Option<Chains> {
+pub fn intact(words: &[u32], layout: Layout, plans: &mut Plans) -> Option<Chains> {
     let judging = plan_of(words, plans)?;
     let next_unused = words[NEXT_UNUSED] as usize;
-    let first = FIRST_RECORD as usize;
+    let first = layout.first_record as usize;
     if !(first..=records(words.len())).contains(&next_unused) || !totals_hold(words) {
         return None;
     }
-    if !offices::fit(&offices::shares_of(words), words.len()) {
+    let shares = offices::shares_of(words, layout);
+    if !offices::fit(&shares, layout.records_after_head(words.len())) {
         return None;
     }
-    let lots = chain(words, words[FIRST_LOT])?;
+    let lots = chain(words, layout, words[FIRST_LOT])?;
     let ascend = |pair: &[u32]| word(words, pair[0], NUMBER) < word(words, pair[1], NUMBER);
     if !lots.windows(2).all(ascend) {
         return None;
     }
     let lots: Option<Vec<Lot>> = lots
         .iter()
-        .map(|&at| read_lot(words, &judging, at))
+        .map(|&at| read_lot(words, layout, &judging, at))
         .collect();
-    let (lots, free) = (lots?, free_chain(words)?);
+    let (lots, free) = (lots?, free_chain(words, layout)?);
     let in_lots: usize = lots.iter().map(|lot| 1 + lot.inspections.len()).sum();
     let on_chains = in_lots + free.len();
     (on_chains == next_unused - first).then_some(Chains {

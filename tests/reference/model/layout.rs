@@ -1,5 +1,6 @@
-//! Sizes and places of a sheet's words (01 "Sheet", with the head of 02, change 7). No
-//! other file has these numbers.
+//! Sizes and places of a sheet's words (01 "Sheet", with the head of 02, change 7), and
+//! those of an old sheet, which is without that change (02, change 8). No other file has
+//! these numbers.
 
 /// Words of a sheet.
 pub const LEAST_WORDS: usize = 64;
@@ -63,10 +64,63 @@ pub const fn records(words: usize) -> usize {
 
 /// The whole records of a sheet after the head.
 pub const fn records_after_head(words: usize) -> usize {
-    records(words) - FIRST_RECORD as usize
+    NEW.records_after_head(words)
 }
 
 /// The words of a sheet with so many records after the head.
 pub const fn room(records: usize) -> usize {
-    HEAD + records * RECORD_WORDS
+    NEW.room(records)
+}
+
+/// What the old sheets of change 8 of 02 have otherwise. All places above are the same in
+/// both but those of the shares, which an old sheet doesn't have.
+#[derive(Clone, Copy, Debug, PartialEq, Eq)]
+pub struct Layout {
+    pub least_words: usize,
+    /// The first record after the head.
+    pub first_record: u32,
+    /// Whether the head has shares.
+    pub shares: bool,
+}
+
+pub const OLD: Layout = Layout {
+    least_words: 48,
+    first_record: 11,
+    shares: false,
+};
+
+pub const NEW: Layout = Layout {
+    least_words: LEAST_WORDS,
+    first_record: FIRST_RECORD,
+    shares: true,
+};
+
+/// What a carry adds to the index of a record.
+pub const RAISE: u32 = NEW.first_record - OLD.first_record;
+const _: () = assert!(OLD.head() == TOTALS_END);
+
+impl Default for Layout {
+    fn default() -> Layout {
+        NEW
+    }
+}
+
+impl Layout {
+    /// Whether a sheet may have so many words.
+    pub fn admits(self, words: usize) -> bool {
+        (self.least_words..=MOST_WORDS).contains(&words)
+    }
+
+    /// The words of the head.
+    pub const fn head(self) -> usize {
+        place(self.first_record, 0)
+    }
+
+    pub const fn records_after_head(self, words: usize) -> usize {
+        records(words) - self.first_record as usize
+    }
+
+    pub const fn room(self, records: usize) -> usize {
+        self.head() + records * RECORD_WORDS
+    }
 }

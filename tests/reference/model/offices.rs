@@ -2,7 +2,7 @@
 //! a record. Sums are whole numbers of any size.
 
 use super::chains::Lot;
-use super::layout::{records_after_head, HEAD, OFFICES, SHARES};
+use super::layout::{Layout, HEAD, OFFICES, SHARES};
 
 /// Each office's share of records.
 pub type Shares = [u32; OFFICES];
@@ -15,17 +15,19 @@ pub fn office(lot: u32) -> usize {
     lot as usize % OFFICES
 }
 
-/// The shares in a sheet's head.
-pub fn shares_of(words: &[u32]) -> Shares {
+/// The shares in a sheet's head, none if it has no words for them.
+pub fn shares_of(words: &[u32], layout: Layout) -> Shares {
     let mut shares = NO_SHARES;
-    shares.copy_from_slice(&words[SHARES..HEAD]);
+    if layout.shares {
+        shares.copy_from_slice(&words[SHARES..HEAD]);
+    }
     shares
 }
 
-/// Whether a sheet of so many words has records after its head for all shares at once.
-pub fn fit(shares: &Shares, words: usize) -> bool {
+/// Whether so many records after the head are enough for all shares at once.
+pub fn fit(shares: &Shares, records: usize) -> bool {
     let sum: u64 = shares.iter().map(|&share| u64::from(share)).sum();
-    sum <= records_after_head(words) as u64
+    sum <= records as u64
 }
 
 /// The records that each office holds: those of its lots and of their inspections.

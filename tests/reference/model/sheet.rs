@@ -8,21 +8,33 @@ use super::offices::{self, Shares};
 use super::plan::STAGE_WORDS;
 use super::Reply;
 
-/// The words of a sheet and the calls on them.
+/// The words of a sheet, and the calls on them under its layout.
 #[derive(Default)]
 pub struct Sheet {
     pub words: Vec<u32>,
-    plans: Plans,
+    layout: Layout,
+    pub(super) plans: Plans,
 }
 
 impl Sheet {
     pub fn new(words: Vec<u32>) -> Sheet {
-        let plans = Plans::default();
-        Sheet { words, plans }
+        Sheet {
+            words,
+            ..Sheet::default()
+        }
     }
 
-    fn size(&self) -> Reply<()> {
-        if (LEAST_WORDS..=MOST_WORDS).contains(&self.words.len()) {
+    /// A sheet under the old layout. It has no shares.
+    pub fn old(words: Vec<u32>) -> Sheet {
+        Sheet {
+            words,
+            layout: OLD,
+            ..Sheet::default()
+        }
+    }
+
+    pub(super) fn size(&self) -> Reply<()> {
+        if self.layout.admits(self.words.len()) {
             Ok(())
         } else {
             Err(1)
@@ -31,7 +43,7 @@ impl Sheet {
 
     fn chains(&mut self) -> Reply<Chains> {
         self.size()?;
-        intact(&self.words, &mut self.plans).ok_or(3)
+        intact(&self.words, self.layout, &mut self.plans).ok_or(3)
     }
 
     /// A record for a call that needs one for this lot: the first free, else the next
@@ -43,7 +55,7 @@ impl Sheet {
         if spare == 0 {
             return Err(11);
         }
-        let shares = offices::shares_of(&self.words);
+        let shares = offices::shares_of(&self.words, self.layout);
         let held = offices::held(&chains.lots);
         if !offices::grants(&shares, &held, offices::office(lot), spare as u64) {
             return Err(19);
@@ -60,7 +72,7 @@ impl Sheet {
         self.put(record, words);
     }
 
-    fn put(&mut self, record: u32, words: [u32; RECORD_WORDS]) {
+    pub(super) fn put(&mut self, record: u32, words: [u32; RECORD_WORDS]) {
         let at = place(record, 0);
         self.words[at..at + RECORD_WORDS].copy_from_slice(&words);
     }
@@ -86,15 +98,20 @@ impl Sheet {
     pub fn fresh(&mut self, plan: &[u32], shares: &Shares) -> Reply<()> {
         self.size()?;
         self.plans.admitted(plan).ok_or(2_u32)?;
-        if !offices::fit(shares, self.words.len()) {
-            return Err(18);
-        }
-        self.words[..SHARES].fill(0);
-        self.words[NEXT_UNUSED] = FIRST_RECORD;
+        self.shares_fit(shares)?;
+        self.words[..TOTALS_END].fill(0);
+        self.words[NEXT_UNUSED] = self.layout.first_record;
         self.words[K] = (plan.len() / STAGE_WORDS) as u32;
         self.words[STAGES..STAGES + plan.len()].copy_from_slice(plan);
-        self.words[SHARES..HEAD].copy_from_slice(shares);
+        if self.layout.shares {
+            self.words[SHARES..HEAD].copy_from_slice(shares);
+        }
         Ok(())
+    }
+
+    pub(super) fn shares_fit(&self, shares: &Shares) -> Reply<()> {
+        let records = self.layout.records_after_head(self.words.len());
+        offices::fit(shares, records).then_some(()).ok_or(18)
     }
 
     pub fn open(&mut self, number: u32) -> Reply<()> {
