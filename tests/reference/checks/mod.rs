@@ -5,6 +5,7 @@ mod blank_selftest;
 mod chance_selftest;
 mod closed_form;
 mod estimate_selftest;
+mod histories;
 mod lot_chance_selftest;
 mod marked_selftest;
 mod office_coverage;
@@ -74,6 +75,7 @@ fn offices() -> Result<(), String> {
     );
     Ok(())
 }
+
 
 fn expect_answer(line: &str, expected: &str) -> Result<(), String> {
     let answer = plan_lines::answer(&mut PlanCalls::default(), line)?;
