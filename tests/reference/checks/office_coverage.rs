@@ -9,7 +9,7 @@ use crate::model::layout::{LEAST_WORDS, MOST_WORDS, OFFICES};
 /// Gives the number of lines, of places that are wanted of them, and of refusals 18 and 19.
 pub fn run() -> Result<[usize; 4], String> {
     let lines = sheet_cases::offices();
-    others_have_no_shares(lines.len())?;
+    others_have_no_shares(lines.len() + sheet_cases::carries().len())?;
     let mut met = Met::default();
     lines.iter().try_for_each(|line| met.line(line))?;
     let (counts, wanted) = (met.counts, wanted());

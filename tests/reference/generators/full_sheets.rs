@@ -23,10 +23,21 @@ pub struct Built {
 
 /// A sheet of this many words, all records but the free and unused ones in lots.
 pub fn sheet(random: &mut Random, length: usize, plan: &[u32], fill: &Fill) -> Built {
+    under(random, NEW, length, plan, fill)
+}
+
+/// Alike under a layout, without shares.
+pub fn under(
+    random: &mut Random,
+    layout: Layout,
+    length: usize,
+    plan: &[u32],
+    fill: &Fill,
+) -> Built {
     let used = (records(length) - fill.unused) as u32;
-    let in_lots = (used - FIRST_RECORD) as usize - fill.free;
+    let in_lots = (used - layout.first_record) as usize - fill.free;
     let histories = histories(random, plan, in_lots);
-    let mut order: Vec<u32> = (FIRST_RECORD..used).rev().collect();
+    let mut order: Vec<u32> = (layout.first_record..used).rev().collect();
     if fill.shuffled {
         random.shuffle(&mut order);
     }

@@ -12,6 +12,8 @@
 //! - Estimates of lots that have one unit: only_units.
 //! - With shares of offices: office_draws, which has them; office_shares, office_grants,
 //!   office_returns, office_damage, office_plays.
+//! - With carries of old sheets: old_sheets, which makes them; carry_sheets,
+//!   carry_refusals, carry_damage, carry_offices, carry_large, carry_plays.
 
 pub mod blank_lists;
 pub mod blank_refusals;
@@ -19,6 +21,12 @@ pub mod blank_script;
 pub mod blank_sheets;
 pub mod blank_stops;
 pub mod blanks;
+pub mod carry_damage;
+pub mod carry_large;
+pub mod carry_offices;
+pub mod carry_plays;
+pub mod carry_refusals;
+pub mod carry_sheets;
 pub mod draw;
 pub mod full_sheets;
 pub mod hand_written;
@@ -36,6 +44,7 @@ pub mod office_grants;
 pub mod office_plays;
 pub mod office_returns;
 pub mod office_shares;
+pub mod old_sheets;
 pub mod only_units;
 pub mod plan_cases;
 pub mod plan_edges;

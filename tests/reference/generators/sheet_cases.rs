@@ -1,8 +1,8 @@
 //! The seeded lists of commands on sheets: hand-written ones, then random ones.
 //! sheet_damage.rs has those that damage a sheet between two calls, marked_sheets.rs
 //! those with marked stages, blank_sheets.rs and blank_refusals.rs those with blanks,
-//! only_units.rs those with estimates of lots that have one unit, and office_*.rs those
-//! with shares of offices.
+//! only_units.rs those with estimates of lots that have one unit, office_*.rs those with
+//! shares of offices, and carry_*.rs those that carry an old sheet.
 
 use super::draw;
 use super::hand_written::{runs, A, B, LARGEST, ONE, SEVEN, THREE, TWO, UNIT, WRAPS};
@@ -86,6 +86,7 @@ pub fn all() -> Vec<String> {
     script.blank_refusals();
     script.only_units();
     script.offices();
+    script.carries();
     script.finish()
 }
 
@@ -108,6 +109,13 @@ pub fn only_units() -> Vec<String> {
 pub fn offices() -> Vec<String> {
     let mut script = Script::new(SEED);
     script.offices();
+    script.finish()
+}
+
+/// The lines of carry_*.rs alone. They start with a new sheet.
+pub fn carries() -> Vec<String> {
+    let mut script = Script::new(SEED);
+    script.carries();
     script.finish()
 }
 
