@@ -2,6 +2,10 @@
 
 mod blank_coverage;
 mod blank_selftest;
+mod carry_coverage;
+mod carry_places;
+mod carry_selftest;
+mod carry_shares;
 mod chance_selftest;
 mod closed_form;
 mod estimate_selftest;
@@ -58,7 +62,8 @@ pub fn selftest() -> Result<(), String> {
     eprintln!("selftest passed: {plans} one-stage plans by the closed form, {more} by floats");
     let [lines, places] = units_coverage::run()?;
     eprintln!("selftest passed: {lines} lines for {places} places of expected units meet them all");
-    offices()
+    offices()?;
+    carries()
 }
 
 fn offices() -> Result<(), String> {
@@ -76,6 +81,26 @@ fn offices() -> Result<(), String> {
     Ok(())
 }
 
+fn carries() -> Result<(), String> {
+    let plays = 600;
+    let [lots, free] = carry_selftest::run(plays)?;
+    eprintln!(
+        "selftest passed: {plays} lists of calls with a carry, by words and by histories, \
+         {lots} lots and {free} free records carried"
+    );
+    let [fewer, reached, full, granted, held_back] = carry_shares::run(plays)?;
+    eprintln!(
+        "selftest passed: {plays} carries with shares, {fewer} with fewer spare than all lack, \
+         {reached} of them with enough later; {full} refused 11 before, then {granted} granted \
+         below a share and {held_back} held back"
+    );
+    let [lines, places, granted] = carry_coverage::run()?;
+    eprintln!(
+        "selftest passed: {lines} lines for {places} places of carries meet them all, \
+         {granted} are granted"
+    );
+    Ok(())
+}
 
 fn expect_answer(line: &str, expected: &str) -> Result<(), String> {
     let answer = plan_lines::answer(&mut PlanCalls::default(), line)?;

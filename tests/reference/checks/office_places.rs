@@ -20,7 +20,7 @@ pub struct View {
     pub spare: u64,
     /// Whether records are free, and whether some are unused.
     of: [bool; 2],
-    lots: usize,
+    pub lots: usize,
 }
 
 impl View {
