@@ -3,6 +3,7 @@
 //! word that it was lent, those beside them too. It ends at the first difference.
 //! tests/differential/run builds and runs it.
 
+mod carries;
 mod compare;
 mod library;
 mod lot_chances;
@@ -16,7 +17,13 @@ use std::time::Instant;
 fn main() -> ExitCode {
     let start = Instant::now();
     let mut comparer = compare::Comparer::default();
-    let parts = [plans::all, lot_chances::all, sheets::all, offices::all];
+    let parts = [
+        plans::all,
+        lot_chances::all,
+        sheets::all,
+        offices::all,
+        carries::all,
+    ];
     let done = parts.into_iter().try_for_each(|part| part(&mut comparer));
     comparer.print();
     println!("{:.1} seconds", start.elapsed().as_secs_f64());
