@@ -2,6 +2,7 @@
 
 mod blank_coverage;
 mod blank_selftest;
+mod carry_by_hand;
 mod carry_coverage;
 mod carry_places;
 mod carry_selftest;

@@ -23,7 +23,7 @@ pub const ALL_RECORDS_MARKED: &str = "o 5, i 5 0, o 3, i 3 1, o 9, i 9 2, o 6, i
 /// ones 9, 12, 13, 14 and 15; 16 is unused.
 const SEVERAL: &[&str] = &[
     // An inspection's chain into a lot, into another lot's, into a free record, to itself
-    // and to a newer one; a lot's into a lot, into an inspection and to itself.
+    // and to a newer one; a lot's into another lot, to itself and into a free record.
     "p ^6.1 ^0",
     "p ^6.1 ^3",
     "p ^6.1 ^15",
@@ -49,8 +49,8 @@ const SEVERAL: &[&str] = &[
     "p ^10.1 0",
     "p first-lot 0",
     "p first-lot ^10",
-    // The free chain to its start, to itself, past a record, through a lot, and none; depths
-    // that fit to what is left of it.
+    // The free chain to its start, to itself, past a record, through a lot, and none; one
+    // record fewer or more, with the depths that fit.
     "p ^15.1 ^9",
     "p ^15.1 ^15",
     "p ^9.1 ^9",
@@ -59,7 +59,8 @@ const SEVERAL: &[&str] = &[
     "p ^9.1 ^10",
     "p first-free 0",
     "p first-free ^12",
-    "p ^15.1 ^16, p ^16.0 1, p ^16.3 free-tag, p ^15.0 2, p ^14.0 3, p ^13.0 4, p ^12.0 5, p ^9.0 6",
+    "p ^15.1 ^16, p ^16.0 1, p ^16.3 free-tag, p ^15.0 2, p ^14.0 3, p ^13.0 4, p ^12.0 5, \
+     p ^9.0 6",
     // Numbers 0, equal and falling; all of them in other offices; the greatest.
     "p ^0.0 0",
     "p ^10.0 3",
@@ -67,12 +68,13 @@ const SEVERAL: &[&str] = &[
     "p ^0.0 5, p ^2.0 3",
     "p ^0.0 1, p ^10.0 2, p ^2.0 3, p ^4.0 4",
     "p ^4.0 4294967295",
-    // Records in use that are on no chain, and none of them unused.
+    // Word 0 above and below the records on chains; a record past it on the free chain.
     "p next-unused ^17",
     "p next-unused ^15",
     "p next-unused ^16, p ^15.1 ^16",
     "p next-unused ^17, p ^16.0 1, p ^16.3 free-tag, p ^15.1 ^16",
-    // Classes out of range in two lots, all classes blank, and a lot past its stop.
+    // Classes out of range in two lots, all classes blank, and others in two lots; a free
+    // chain ended early with its depth, and serials from 2 on.
     "p ^1.0 4, p ^3.0 4",
     "p ^1.0 3, p ^3.0 3, p ^5.0 3, p ^8.0 3, p ^11.0 3, p ^7.0 3",
     "p ^1.0 2, p ^5.0 0",
