@@ -9,8 +9,9 @@
  * A pointer is followed by the number of its elements, which may be any number;
  * an array has the length in brackets. A pointer is aligned and not null, also
  * where the number is 0, and what a call writes to overlaps nothing else that it
- * takes. Nothing else is required of the caller: any words on a sheet, in a plan,
- * in a list or as shares get an answer.
+ * takes: so an old sheet and the one that it is carried into do not overlap.
+ * Nothing else is required of the caller: any words on a sheet, in a plan, in a
+ * list or as shares get an answer.
  */
 #ifndef HAQOTHWE_H
 #define HAQOTHWE_H
@@ -22,15 +23,17 @@
 extern "C" {
 #endif
 
-/* The refusals in their order of precedence, in which 18 stands after 3, 19 after
-   11 and 17 after 13; haq_refusal_text gives their sentences. In quotes the word of
-   documents 01 and 02 where it is another than the name. */
+/* The refusals in their order of precedence, in which 18 and 20 stand after 3, 19
+   after 11 and 17 after 13; haq_refusal_text gives their sentences. In quotes the
+   word of documents 01 and 02 where it is another than the name. */
 enum haq_refusal {
     HAQ_GRANTED = 0,
-    HAQ_SHEET_SIZE = 1,      /* the sheet has fewer than 64 words or more than 65,536 */
+    HAQ_SHEET_SIZE = 1,      /* the sheet has fewer than 64 words (an old one 48) or more than
+                                65,536 */
     HAQ_PLAN = 2,            /* the plan is not admitted */
     HAQ_CORRUPT = 3,         /* the sheet is corrupt ("torn") */
     HAQ_SHARES = 18,         /* the shares add to more than the records after the header */
+    HAQ_NO_FIT = 20,         /* the second sheet has too few records for those of the old one */
     HAQ_LOT_ZERO = 4,        /* 0 is not a lot number ("blank lot") */
     HAQ_OPEN_ALREADY = 5,    /* the lot is open already */
     HAQ_NOT_OPEN = 6,        /* the lot is not open */
@@ -53,10 +56,12 @@ enum haq_refusal {
 static inline const char *haq_refusal_text(uint32_t number) {
     switch (number) {
     case HAQ_GRANTED: return "granted";
-    case HAQ_SHEET_SIZE: return "the sheet has fewer than 64 words or more than 65,536";
+    case HAQ_SHEET_SIZE:
+        return "the sheet has fewer than 64 words (an old one 48) or more than 65,536";
     case HAQ_PLAN: return "the plan is not admitted";
     case HAQ_CORRUPT: return "the sheet is corrupt";
     case HAQ_SHARES: return "the shares add to more than the records after the header";
+    case HAQ_NO_FIT: return "the second sheet has too few records for those of the old one";
     case HAQ_LOT_ZERO: return "0 is not a lot number";
     case HAQ_OPEN_ALREADY: return "the lot is open already";
     case HAQ_NOT_OPEN: return "the lot is not open";
@@ -79,8 +84,10 @@ static inline const char *haq_refusal_text(uint32_t number) {
 /* States of a lot. */
 enum haq_state { HAQ_STATE_UNDECIDED = 0, HAQ_STATE_ACCEPTED = 1, HAQ_STATE_REJECTED = 2 };
 
-/* Words of a sheet: at least, and at most. */
+/* Words of a sheet: at least, and at most; an old sheet, which has no shares, may be
+   shorter. */
 #define HAQ_SHEET_LEAST 64
+#define HAQ_OLD_SHEET_LEAST 48
 #define HAQ_SHEET_MOST 65536
 
 /* Offices that share a sheet. A lot's office is its number % 16, and holds the lot's
@@ -88,8 +95,10 @@ enum haq_state { HAQ_STATE_UNDECIDED = 0, HAQ_STATE_ACCEPTED = 1, HAQ_STATE_REJE
    first 15 records are the header. An office may have a share, a number of records: a
    record is granted if the lot's office holds fewer than its share, or if the records
    free and unused exceed what the other offices lack to reach their shares, added up.
-   So an office that haq_fresh gave a share can always get that many. Sixteen zeros are
-   no shares: a record is granted as long as one is free or unused. */
+   So an office can always get as many as its share: from the start on a sheet that
+   haq_fresh made; on one that haq_carry made, from the first point at which the records
+   free and unused are at least what all offices lack, added up. Sixteen zeros are no
+   shares: a record is granted as long as one is free or unused. */
 #define HAQ_OFFICES 16
 
 /* Words of scratch that are enough for every admitted plan. A plan needs twice
@@ -108,6 +117,15 @@ enum haq_state { HAQ_STATE_UNDECIDED = 0, HAQ_STATE_ACCEPTED = 1, HAQ_STATE_REJE
 /* Makes an empty sheet for a plan and the shares of offices 0 to 15: writes words 0
    to 59. Refusals 1, 2, 18. */
 uint32_t haq_fresh(uint32_t *sheet, size_t n, const uint32_t *plan, size_t plan_n,
+                   const uint32_t shares[16]);
+
+/* Carries an old sheet, which is only read, into a second one under given shares: plan,
+   lots, inspections, free records and totals are kept. An old sheet has no shares and
+   its first record is 11, so that each record comes to stand four later. Written are
+   words 0 to 59 and the records carried; words from 4 * (old[0] + 4) on stay. The second
+   sheet may have held anything. An office may arrive above its share, and keeps what it
+   has. Refusals 1 (of either sheet), 3 (of the old one), 18, 20. */
+uint32_t haq_carry(const uint32_t *old, size_t old_n, uint32_t *sheet, size_t n,
                    const uint32_t shares[16]);
 
 /* Adds a lot, numbered from 1. Refusals 1, 3, 4, 5, 11, 19. */

@@ -1,11 +1,23 @@
-"""One lot from opening to closing, offices with shares, then a list and chances. Its output is
-bindings/expected."""
+"""One lot from opening to closing, offices with shares, an old sheet carried, then a list and
+chances. Its output is bindings/expected."""
 
 from haqothwe import (OFFICES, Refused, Sheet, chance, chart, judge, lot_chance, units,
                       units_chart)
 
 PLAN = [5, 2, 3, 1, 2]
 STATES = ["undecided", "accepted", "rejected"]
+
+# 60 words: one lot accepted and closed, lot 7 half inspected, and one free record.
+OLD_SHEET = [
+    15, 11, 14, 1,  # next unused record, first lot, first free record, stages
+    *PLAN,
+    *[0] * 30,  # six stages that are not used
+    1, 0, 4, 0, 0,  # totals
+    7, 0, 13, 0,  # record 11: lot 7, the last, with its newest inspection
+    3, 0, 11, 1,  # record 12: a blank, the oldest
+    2, 12, 11, 2,  # record 13: a bad unit, the newest
+    1, 0, 0, 2**32 - 1,  # record 14: free, the last
+]
 
 
 def done(call, function, *rest):
@@ -20,9 +32,12 @@ def show_lot(sheet):
     it = sheet.look(7)
     print(f"look 7: {STATES[it.state]} after {it.units} units, "
           f"{it.good} good, {it.marginal} marginal ({it.blanks} blank), {it.bad} bad")
-    done("inspect 7 0", sheet.inspect, 7, 0)
-    it = sheet.estimate(7)
-    print(f"estimate 7: {it.good}, {it.marginal}, {it.bad} over {it.denominator}")
+
+
+def show_totals(sheet):
+    it = sheet.tally()
+    print(f"tally: {it.accepted} accepted, {it.rejected} rejected; "
+          f"{it.good} good, {it.marginal} marginal, {it.bad} bad")
 
 
 def keep_sheet(sheet):
@@ -35,10 +50,11 @@ def keep_sheet(sheet):
     done("inspect 7 2", sheet.inspect, 7, 2)
     done("inspect 7 2", sheet.inspect, 7, 2)
     show_lot(sheet)
+    done("inspect 7 0", sheet.inspect, 7, 0)
+    it = sheet.estimate(7)
+    print(f"estimate 7: {it.good}, {it.marginal}, {it.bad} over {it.denominator}")
     done("close 7", sheet.close, 7)
-    it = sheet.tally()
-    print(f"tally: {it.accepted} accepted, {it.rejected} rejected; "
-          f"{it.good} good, {it.marginal} marginal, {it.bad} bad")
+    show_totals(sheet)
 
 
 def share_sheet(sheet):
@@ -56,6 +72,20 @@ def share_sheet(sheet):
     done("inspect 8 0", sheet.inspect, 8, 0)
 
 
+def carry_sheet():
+    """The shares are one record for office 8."""
+    shares = [0] * OFFICES
+    shares[8] = 1
+    done("carry into 72 words", Sheet(72).carry, OLD_SHEET, shares)
+    sheet = Sheet(80)
+    done("carry into 80 words", sheet.carry, OLD_SHEET, shares)
+    show_lot(sheet)
+    done("inspect 7 2", sheet.inspect, 7, 2)
+    show_lot(sheet)
+    done("close 7", sheet.close, 7)
+    show_totals(sheet)
+
+
 def judged(classes):
     try:
         it = judge(PLAN, classes)
@@ -71,6 +101,7 @@ def main():
     sheet = Sheet(80)
     keep_sheet(sheet)
     share_sheet(sheet)
+    carry_sheet()
     judged([0, 0, 0, 1, 2])
     judged([])
     judged([0, 0, 0, 1, 2, 4])

@@ -41,10 +41,11 @@ class Refused(Exception):
 
 # Number, subclass and sentence of each refusal (docs/SPECIFICATION.md, "Refused").
 _TABLE = [
-    (1, "SheetSize", "the sheet has fewer than 64 words or more than 65,536"),
+    (1, "SheetSize", "the sheet has fewer than 64 words (an old one 48) or more than 65,536"),
     (2, "Plan", "the plan is not admitted"),
     (3, "Corrupt", "the sheet is corrupt"),
     (18, "Shares", "the shares add to more than the records after the header"),
+    (20, "NoFit", "the second sheet has too few records for those of the old one"),
     (4, "LotZero", "0 is not a lot number"),
     (5, "OpenAlready", "the lot is open already"),
     (6, "NotOpen", "the lot is not open"),
@@ -93,6 +94,7 @@ _sheet = (ctypes.POINTER(_u32), _size)
 _list = (ctypes.POINTER(_u8), _size)
 _bounds = _sheet + (_u32, _u32, _u32, ctypes.POINTER(_u64), _size)
 _fresh = _function("haq_fresh", *_sheet, *_sheet, ctypes.POINTER(_u32))
+_carry = _function("haq_carry", *_sheet, *_sheet, ctypes.POINTER(_u32))
 _open = _function("haq_open", *_sheet, _u32)
 _inspect = _function("haq_inspect", *_sheet, _u32, _u32)
 _strike = _function("haq_strike", *_sheet, _u32)
@@ -119,6 +121,12 @@ def _words(numbers):
     return (_u32 * len(numbers))(*map(_word, numbers))
 
 
+def _shares(numbers):
+    if len(numbers) != OFFICES:
+        raise ValueError(f"not {OFFICES} shares: {len(numbers)}")
+    return _words(numbers)
+
+
 def _granted(number):
     if number:
         raise REFUSALS.get(number, Refused)(number)
@@ -135,9 +143,12 @@ class Sheet:
 
     def fresh(self, plan, shares=(0,) * OFFICES):
         """shares: records for each office, 0 where it has no share."""
-        if len(shares) != OFFICES:
-            raise ValueError(f"not {OFFICES} shares: {len(shares)}")
-        self._call(_fresh, _words(plan), len(plan), _words(shares))
+        self._call(_fresh, _words(plan), len(plan), _shares(shares))
+
+    def carry(self, old, shares=(0,) * OFFICES):
+        """Carries an old sheet, whose header has no shares, into this one. old: its words."""
+        old = _words(old)
+        _granted(_carry(old, len(old), self.words, len(self.words), _shares(shares)))
 
     def open(self, lot):
         self._call(_open, _word(lot))

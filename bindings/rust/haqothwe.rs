@@ -51,10 +51,11 @@ macro_rules! refusals {
 
 // docs/SPECIFICATION.md, "Refused".
 refusals! {
-    1 SheetSize "the sheet has fewer than 64 words or more than 65,536"
+    1 SheetSize "the sheet has fewer than 64 words (an old one 48) or more than 65,536"
     2 Plan "the plan is not admitted"
     3 Corrupt "the sheet is corrupt"
     18 Shares "the shares add to more than the records after the header"
+    20 NoFit "the second sheet has too few records for those of the old one"
     4 LotZero "0 is not a lot number"
     5 OpenAlready "the lot is open already"
     6 NotOpen "the lot is not open"
@@ -150,6 +151,9 @@ extern "C" {
     fn haq_fresh(
         sheet: *mut u32, n: usize, plan: *const u32, plan_n: usize, shares: &[u32; OFFICES],
     ) -> u32;
+    fn haq_carry(
+        old: *const u32, old_n: usize, sheet: *mut u32, n: usize, shares: &[u32; OFFICES],
+    ) -> u32;
     fn haq_open(sheet: *mut u32, n: usize, lot: u32) -> u32;
     fn haq_inspect(sheet: *mut u32, n: usize, lot: u32, class: u32) -> u32;
     fn haq_strike(sheet: *mut u32, n: usize, lot: u32) -> u32;
@@ -199,6 +203,12 @@ impl Sheet<'_> {
     pub fn fresh(&mut self, plan: &[u32], shares: &[u32; OFFICES]) -> Reply<()> {
         let (words, n) = (self.0.as_mut_ptr(), self.0.len());
         reply(|_| unsafe { haq_fresh(words, n, plan.as_ptr(), plan.len(), shares) })
+    }
+
+    /// Carries an old sheet, whose header has no shares, into this one.
+    pub fn carry(&mut self, old: &[u32], shares: &[u32; OFFICES]) -> Reply<()> {
+        let (words, n) = (self.0.as_mut_ptr(), self.0.len());
+        reply(|_| unsafe { haq_carry(old.as_ptr(), old.len(), words, n, shares) })
     }
 
     pub fn open(&mut self, lot: u32) -> Reply<()> {

@@ -15,6 +15,10 @@ BEYOND = [len(TABLE) + 1, 2**32 - 1]
 ONE_STAGE = [5, 2, 3, 1, 2]
 TWO_STAGES = [10, 0, 3, 0, 3, 1, 5, 6, 5, 6]
 
+# Old sheets, of 48 and of 52 words.
+OLD_EMPTY = [11, 0, 0, 1, *ONE_STAGE, *[0] * 39]
+OLD_WITH_LOT_7 = [13, 11, 0, 1, *ONE_STAGE, *[0] * 35, 7, 0, 12, 0, 0, 0, 11, 1]
+
 STRICT = ["-Wall", "-Wextra", "-Wpedantic", "-Werror", "-Iinclude"]
 
 
@@ -28,9 +32,10 @@ def asked(program, numbers):
 
 class Words(unittest.TestCase):
     def test_table(self):
-        """Each number once, in ascending order but for 18, 19 and 17, which follow 3, 11 and 13."""
+        """Each number once, in ascending order but for 18 and 20, which follow 3, 19, which follows
+        11, and 17, which follows 13."""
         numbers = [row.number for row in TABLE]
-        self.assertEqual(numbers, [1, 2, 3, 18, *range(4, 12), 19, 12, 13, 17, 14, 15, 16])
+        self.assertEqual(numbers, [1, 2, 3, 18, 20, *range(4, 12), 19, 12, 13, 17, 14, 15, 16])
 
     def test_readme(self):
         self.assertEqual(refusals("README.md", "Refusals"), TABLE)
@@ -139,13 +144,39 @@ class Raised(unittest.TestCase):
 
     def test_number_of_shares(self):
         """Sixteen, else no call is made; without them they are 0."""
-        for length in (0, 15, 17):
-            sheet = haqothwe.Sheet(80)
-            with self.assertRaises(ValueError):
-                sheet.fresh(ONE_STAGE, [0] * length)
-            self.assertFalse(any(sheet.words))
-        sheet.fresh(ONE_STAGE)
-        self.assertEqual(sheet.words[44:60], [0] * 16)
+        for call, given in (("fresh", ONE_STAGE), ("carry", OLD_EMPTY)):
+            for length in (0, 15, 17):
+                sheet = haqothwe.Sheet(80)
+                with self.assertRaises(ValueError):
+                    getattr(sheet, call)(given, [0] * length)
+                self.assertFalse(any(sheet.words))
+            sheet.words[44:60] = [1] * 16
+            getattr(sheet, call)(given)
+            self.assertEqual(sheet.words[44:60], [0] * 16)
+
+    def test_carry(self):
+        """Each row before those that follow it: 1 of either sheet, 3 of the old one, 18, 20."""
+        call, too_many = haqothwe.Sheet.carry, shares_with(1, 1)
+        zeros = [0] * 65_537
+        for old, words in (([], 64), (zeros[:47], 64), (zeros, 64), (zeros[:48], 63),
+                           (zeros[:48], 65_537)):
+            self.refused(haqothwe.SheetSize, call, haqothwe.Sheet(words), old, too_many)
+        self.refused(haqothwe.Corrupt, call, haqothwe.Sheet(67), zeros[:48], too_many)
+        for shares in (too_many, [2**32 - 1] * 16):
+            self.refused(haqothwe.Shares, call, haqothwe.Sheet(67), OLD_WITH_LOT_7, shares)
+        self.refused(haqothwe.NoFit, call, haqothwe.Sheet(67), OLD_WITH_LOT_7, shares_with(1))
+        sheet = haqothwe.Sheet(68)
+        sheet.carry(OLD_WITH_LOT_7, shares_with(1))
+        self.assertEqual(sheet.look(7), (haqothwe.UNDECIDED, 1, 1, 0, 0, 0))
+
+    def test_carried_shares(self):
+        """The shares given hold on the sheet that an old one is carried into."""
+        sheet = haqothwe.Sheet(64)
+        sheet.carry(OLD_EMPTY, shares_with(0, 1))
+        self.assertEqual(sheet.words[44:60], shares_with(0, 1))
+        self.refused(haqothwe.HeldBack, sheet.open, 16)
+        sheet.open(17)
+        self.refused(haqothwe.Full, sheet.open, 16)
 
     def test_held_back(self):
         """An office at its share gets 19 while others lack all that is left, and then 11."""
