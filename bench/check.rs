@@ -90,13 +90,24 @@ impl Sides {
     }
 
     fn stored_sheets(&mut self) -> Compared {
-        let mut words = vec![];
+        let (mut words, mut aside) = (vec![], vec![]);
         for line in sheet_cases::all() {
             match Command::parse(&line)? {
                 Command::Write(write) => write.make(&mut words),
+                Command::Exchange => std::mem::swap(&mut words, &mut aside),
                 Command::Call(call) => {
                     let before = Rc::new(words);
                     self.compare(&Work::Sheet { before, call }, &line)?;
+                    words = self.reference.words().to_vec();
+                }
+                Command::Carry(shares) => {
+                    let (old, before) = (aside.clone(), Rc::new(words));
+                    let carry = Work::Carry {
+                        old,
+                        before,
+                        shares,
+                    };
+                    self.compare(&carry, &line)?;
                     words = self.reference.words().to_vec();
                 }
             }

@@ -1,6 +1,7 @@
 //! What a call is, and what an implementation of the calls has to offer.
 
 use reference::model::chance::{Weights, MOST_SCRATCH};
+use reference::model::offices::Shares;
 use reference::model::sheet_call::SheetCall;
 use std::rc::Rc;
 
@@ -28,6 +29,12 @@ pub enum Work {
     Sheet {
         before: Rc<Vec<u32>>,
         call: SheetCall,
+    },
+    /// An old sheet, carried into one with the words that it has before.
+    Carry {
+        old: Vec<u32>,
+        before: Rc<Vec<u32>>,
+        shares: Shares,
     },
 }
 
@@ -78,7 +85,7 @@ impl Memory {
 }
 
 pub fn load(words: &mut Vec<u32>, work: &Work) {
-    if let Work::Sheet { before, .. } = work {
+    if let Work::Sheet { before, .. } | Work::Carry { before, .. } = work {
         words.resize(before.len(), 0);
         words.copy_from_slice(before);
     }

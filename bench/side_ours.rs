@@ -36,6 +36,10 @@ impl Side for Ours {
                 returned(haqothwe::lot_chance(plan, *lot, scratch))
             }
             Work::Sheet { call, .. } => on_sheet(&mut Sheet(&mut self.0.words), call),
+            Work::Carry { old, shares, .. } => {
+                let done = Sheet(&mut self.0.words).carry(old, shares);
+                returned(done.map(|()| [0_u32; 0]))
+            }
         }
     }
 

@@ -1,7 +1,7 @@
 //! Plain Rust written to be fast: plain/.
 
 use crate::side::{answer, Answer, Memory, Side, Work};
-use plain::{chance, judge, sheet};
+use plain::{carry, chance, judge, sheet};
 use reference::model::sheet_call::SheetCall;
 
 #[derive(Default)]
@@ -36,6 +36,10 @@ impl Side for Plain {
                 answer(chance::lot_chance(plan, *lot, scratch))
             }
             Work::Sheet { call, .. } => on_sheet(&mut self.0.words, call),
+            Work::Carry { old, shares, .. } => {
+                let done = carry::carry(old, &mut self.0.words, shares);
+                answer(done.map(|()| [0_u32; 0]))
+            }
         }
     }
 

@@ -55,6 +55,10 @@ impl Side for Reference {
                     (0, values)
                 }
             },
+            Work::Carry { old, shares, .. } => {
+                let done = self.sheet.carry(old, shares);
+                answer(done.map(|()| [0_u32; 0]))
+            }
         }
     }
 

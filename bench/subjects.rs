@@ -7,8 +7,10 @@ use reference::generators::hand_written::{LARGEST, ONE, SEVEN};
 use reference::generators::random::Random;
 use reference::model::chance::{Weights, MOST_SCRATCH};
 use reference::model::earliest::Table;
-use reference::model::layout::{HEAD, MOST_WORDS, TOTALS_END};
+use reference::model::layout::{HEAD, LEAST_WORDS, MOST_WORDS, OLD, TOTALS_END};
+use reference::model::offices::NO_SHARES;
 use reference::model::plan::Plan;
+use reference::model::sheet::Sheet;
 use reference::model::sheet_call::SheetCall;
 use std::rc::Rc;
 
@@ -26,6 +28,7 @@ pub fn all() -> Vec<Subject> {
     let random = &mut Random::new(1_000);
     all.extend(short_lots(random));
     all.extend(other_sheets(random));
+    all.extend(carries(random));
     all
 }
 
@@ -109,14 +112,18 @@ fn lot_chance((name, plan): &Named) -> Subject {
     }
 }
 
-/// A sheet of the greatest size, 5 records in 100 free and 1 in 100 unused.
-fn sheet(random: &mut Random, plan: &[u32], shuffled: bool) -> Built {
-    let fill = Fill {
+/// Of a sheet of the greatest size 5 records in 100 free and 1 in 100 unused.
+fn fill(shuffled: bool) -> Fill {
+    Fill {
         free: 800,
         unused: 160,
         shuffled,
-    };
-    full_sheets::sheet(random, MOST_WORDS, plan, &fill)
+    }
+}
+
+/// A sheet of the greatest size.
+fn sheet(random: &mut Random, plan: &[u32], shuffled: bool) -> Built {
+    full_sheets::sheet(random, MOST_WORDS, plan, &fill(shuffled))
 }
 
 /// A call on a sheet with lots of some kind.
@@ -186,4 +193,27 @@ fn other_sheets(random: &mut Random) -> Vec<Subject> {
         call(&Rc::new(built.words), lots, SheetCall::Look(lot))
     };
     sheets.map(subject).into()
+}
+
+/// Words of an old sheet whose records fit a sheet of the greatest size.
+const OLD_WORDS: usize = 65_000;
+
+/// Old sheets carried into zeros: a full one, and the least one, with no lot.
+fn carries(random: &mut Random) -> Vec<Subject> {
+    let full = full_sheets::under(random, OLD, OLD_WORDS, ONE, &fill(false));
+    let mut empty = Sheet::old(vec![0; OLD.least_words]);
+    let made = empty.fresh(ONE, &NO_SHARES);
+    made.expect("the plan is admitted");
+    let subject = |old, name: &str, length| Subject {
+        name: format!("carry, {name}"),
+        work: Work::Carry {
+            old,
+            before: Rc::new(vec![0; length]),
+            shares: NO_SHARES,
+        },
+    };
+    vec![
+        subject(full.words, "65,000 words, short lots", MOST_WORDS),
+        subject(empty.words, "48 words, no lot", LEAST_WORDS),
+    ]
 }

@@ -2,6 +2,7 @@
 //! as the library: what its times are compared with. tests/reference is written
 //! for clarity, so that a ratio to its times would say little.
 
+pub mod carry;
 pub mod chance;
 mod draw;
 pub mod judge;

@@ -5,17 +5,17 @@ use super::plan::{Counts, Limits, Plan, ACCEPTED, MOST_STAGES, STAGE_WORDS, UNDE
 use super::shares::{self, office, ByOffice, OFFICES};
 use std::ops::Range;
 
-const LEAST_WORDS: usize = 64;
+pub(super) const LEAST_WORDS: usize = 64;
 const MOST_WORDS: usize = 65_536;
 
 // Places in the head.
-const FIRST_LOT: usize = 1;
-const FIRST_FREE: usize = 2;
+pub(super) const FIRST_LOT: usize = 1;
+pub(super) const FIRST_FREE: usize = 2;
 const K: usize = 3;
 const STAGES: usize = 4;
 const TOTALS: usize = 39;
-const SHARES: usize = 44;
-const HEAD: usize = 60;
+pub(super) const SHARES: usize = 44;
+pub(super) const HEAD: usize = 60;
 
 const FIRST_RECORD: u32 = 15;
 const FREE: u32 = u32::MAX;
@@ -33,7 +33,7 @@ struct Lot {
 }
 
 /// What a walk finds on a sound sheet.
-struct Survey {
+pub(super) struct Survey {
     stages: usize,
     lot: Option<Lot>,
     /// The word that holds the index of the first lot from the number on.
@@ -69,16 +69,26 @@ impl Judge {
     }
 }
 
+/// Refuses a sheet of another size.
+pub(super) fn size(words: &[u32], least: usize) -> Result<(), u32> {
+    if (least..=MOST_WORDS).contains(&words.len()) {
+        Ok(())
+    } else {
+        Err(1)
+    }
+}
+
 /// The whole records of a sheet, those of the head too.
-fn records(words: &[u32]) -> u32 {
+pub(super) fn records(words: &[u32]) -> u32 {
     (words.len() / 4) as u32
 }
 
-fn shares_fit(words: &[u32], shares: &[u32]) -> bool {
+pub(super) fn shares_fit(words: &[u32], shares: &[u32]) -> bool {
     shares::fit(shares, records(words) - FIRST_RECORD)
 }
 
-fn head(words: &[u32]) -> Option<Judge> {
+/// The judge of a sheet whose head is sound but for shares, which an old sheet has not.
+fn head(words: &[u32], first: u32) -> Option<Judge> {
     let k = words[K] as usize;
     if !(1..=MOST_STAGES).contains(&k) {
         return None;
@@ -89,24 +99,23 @@ fn head(words: &[u32]) -> Option<Judge> {
     let lots = sum(&words[TOTALS..TOTALS + 2]);
     let units = sum(&words[TOTALS + 2..SHARES]);
     let sound = unused.iter().all(|&word| word == 0)
-        && (FIRST_RECORD..=records(words)).contains(&words[0])
+        && (first..=records(words)).contains(&words[0])
         && lots <= MOST_CLOSED
-        && units <= 1000 * lots
-        && shares_fit(words, &words[SHARES..HEAD]);
+        && units <= 1000 * lots;
     sound.then(|| Judge::new(plan))
 }
 
-/// A sheet with a sound head.
-struct Sheet<'a> {
+/// A sheet with a sound head, whose records begin at FIRST.
+struct Sheet<'a, const FIRST: u32> {
     judge: Judge,
     /// The records in use, those of the head too.
     records: &'a [Record],
 }
 
-impl Sheet<'_> {
+impl<const FIRST: u32> Sheet<'_, FIRST> {
     fn record(&self, at: u32) -> Option<&Record> {
         let record = self.records.get(at as usize);
-        record.filter(|_| at >= FIRST_RECORD)
+        record.filter(|_| at >= FIRST)
     }
 
     /// The counts of the inspections back from `at`, whose serials are those of the
@@ -118,7 +127,7 @@ impl Sheet<'_> {
         for serial in serials.rev() {
             let &[class, older, of, number] = self.records.get(at as usize)?;
             faults |= (of ^ lot) | (number ^ serial);
-            faults |= (class >> 2) | u32::from(at < FIRST_RECORD);
+            faults |= (class >> 2) | u32::from(at < FIRST);
             packed = packed.with(class);
             at = older;
         }
@@ -178,7 +187,7 @@ impl Sheet<'_> {
         let (mut at, mut faults) = (first, 0);
         for depth in (1..=length).rev() {
             let &[number, next, zero, tag] = self.records.get(at as usize)?;
-            faults |= (number ^ depth) | zero | (tag ^ FREE) | u32::from(at < FIRST_RECORD);
+            faults |= (number ^ depth) | zero | (tag ^ FREE) | u32::from(at < FIRST);
             at = next;
         }
         (at == 0 && faults == 0).then_some(length)
@@ -217,18 +226,26 @@ impl Sheet<'_> {
             (before, at) = (lot, next);
         }
         survey.free = self.free(head[FIRST_FREE])?;
-        (seen + survey.free == head[0] - FIRST_RECORD).then_some(survey)
+        (seen + survey.free == head[0] - FIRST).then_some(survey)
     }
 }
 
-fn survey(words: &[u32], number: u32) -> Result<Survey, u32> {
-    if !(LEAST_WORDS..=MOST_WORDS).contains(&words.len()) {
-        return Err(1);
-    }
-    let judge = head(words).ok_or(3_u32)?;
+/// The walk of a sheet whose records begin at FIRST, a constant of the loops. Shares, which
+/// an old sheet has not, are not asked.
+pub(super) fn walk<const FIRST: u32>(words: &[u32], number: u32) -> Result<Survey, u32> {
+    let judge = head(words, FIRST).ok_or(3_u32)?;
     let (records, _) = words.as_chunks();
     let records = &records[..words[0] as usize];
-    Sheet { judge, records }.survey(number).ok_or(3)
+    let sheet = Sheet::<FIRST> { judge, records };
+    sheet.survey(number).ok_or(3)
+}
+
+fn survey(words: &[u32], number: u32) -> Result<Survey, u32> {
+    size(words, LEAST_WORDS)?;
+    if !shares_fit(words, &words[SHARES..HEAD]) {
+        return Err(3);
+    }
+    walk::<FIRST_RECORD>(words, number)
 }
 
 fn survey_lot(words: &[u32], number: u32) -> Result<(Survey, Lot), u32> {
@@ -278,9 +295,7 @@ fn release(words: &mut [u32], record: u32) {
 }
 
 pub fn fresh(words: &mut [u32], plan: &[u32], shares: &ByOffice) -> Result<(), u32> {
-    if !(LEAST_WORDS..=MOST_WORDS).contains(&words.len()) {
-        return Err(1);
-    }
+    size(words, LEAST_WORDS)?;
     Plan::admitted(plan).ok_or(2_u32)?;
     if !shares_fit(words, shares) {
         return Err(18);
