@@ -2,6 +2,7 @@
 //! and that no line meets is an error.
 
 use super::carry_places::Met;
+use super::office_places::all_met;
 use crate::generators::sheet_cases;
 use crate::model::layout::{CLOSED_LOTS, K, MOST_WORDS, NEXT_UNUSED, OFFICES, STAGES, TOTALS_END};
 use crate::model::plan::STAGE_WORDS;
@@ -12,11 +13,7 @@ pub fn run() -> Result<[usize; 3], String> {
     let mut met = Met::default();
     lines.iter().try_for_each(|line| met.line(line))?;
     let (counts, wanted) = (met.counts, wanted());
-    let missing = |place: &&String| !counts.contains_key(*place);
-    let missing: Vec<&String> = wanted.iter().filter(missing).collect();
-    if !missing.is_empty() {
-        return Err(format!("no line of carry_*.rs has {missing:#?}"));
-    }
+    all_met(&counts, &wanted, "carry_*.rs")?;
     let never = never();
     if let Some(place) = never.iter().find(|place| counts.contains_key(*place)) {
         return Err(format!("a line of carry_*.rs has {place}"));
@@ -124,12 +121,12 @@ fn wanted_of_fits() -> Vec<String> {
             "old of {MOST_WORDS} words, {more} too many: {reply}"
         ));
     }
-    for fit in ["none", "the most", "fewer"] {
-        wanted.push(format!("shares {fit}: granted"));
-        wanted.push(format!("shares {fit}: refused 20"));
+    for fit in ["no shares", "the most", "fewer"] {
+        wanted.push(format!("shares, {fit}: granted"));
+        wanted.push(format!("shares, {fit}: refused 20"));
     }
     for fit in ["one more", "more", "in 32 bits few", "past 32 bits"] {
-        wanted.push(format!("shares {fit}: refused 18"));
+        wanted.push(format!("shares, {fit}: refused 18"));
     }
     wanted
 }

@@ -1,7 +1,7 @@
 //! The places that carries meet (02, change 8): what is carried into what, which refusals
 //! apply, which word of an old sheet is damaged; and what an office gets after a carry.
 
-use super::office_places::{text, View};
+use super::office_places::{sum_beside, text, Counts, View};
 use crate::lines::sheet_lines::{Command, Sheets};
 use crate::model::chains::{intact, Chains, Plans};
 use crate::model::class::{blanks, BLANK};
@@ -9,14 +9,13 @@ use crate::model::layout::*;
 use crate::model::offices::{office, Shares};
 use crate::model::plan::{Stage, STAGE_WORDS};
 use crate::model::sheet_call::SheetCall;
-use std::collections::BTreeMap;
 
 /// The sheets as the lines leave them, and how many carries and calls meet each place.
 #[derive(Default)]
 pub struct Met {
     sheets: Sheets,
     plans: Plans,
-    pub counts: BTreeMap<String, usize>,
+    pub counts: Counts,
     /// The last old sheet that was not torn, but for those that differ from one before in a
     /// word.
     sound: Vec<u32>,
@@ -123,17 +122,8 @@ impl Met {
 
     fn shares(&mut self, shares: &Shares, second: usize, reply: &str) {
         let records = records_after_head(second) as u64;
-        let sum: u64 = shares.iter().map(|&share| u64::from(share)).sum();
-        let fit = match sum.abs_diff(records) {
-            _ if sum == 0 => "none",
-            0 => "the most",
-            1 if sum > records => "one more",
-            _ if sum < records => "fewer",
-            _ if sum < 1 << 32 => "more",
-            _ if sum % (1 << 32) <= records => "in 32 bits few",
-            _ => "past 32 bits",
-        };
-        self.count(format!("shares {fit}: {reply}"));
+        let fit = sum_beside(shares, records);
+        self.count(format!("shares, {fit}: {reply}"));
     }
 
     /// The records of the second sheet beside those that are needed and those of the old.

@@ -1,7 +1,7 @@
 //! Whether the cases of office_*.rs meet the places that they are for. One that is wanted
 //! and that no line meets is an error.
 
-use super::office_places::Met;
+use super::office_places::{all_met, Met};
 use crate::generators::sheet_cases;
 use crate::lines::sheet_lines::{self, Sheets};
 use crate::model::layout::{LEAST_WORDS, MOST_WORDS, OFFICES};
@@ -13,11 +13,7 @@ pub fn run() -> Result<[usize; 4], String> {
     let mut met = Met::default();
     lines.iter().try_for_each(|line| met.line(line))?;
     let (counts, wanted) = (met.counts, wanted());
-    let missing = |place: &&String| !counts.contains_key(*place);
-    let missing: Vec<&String> = wanted.iter().filter(missing).collect();
-    if !missing.is_empty() {
-        return Err(format!("no line of office_*.rs has {missing:#?}"));
-    }
+    all_met(&counts, &wanted, "office_*.rs")?;
     let shares = counts[FRESH_REFUSED];
     let held_back = HELD_BACK.iter().map(|&place| counts[place]).sum();
     Ok([lines.len(), wanted.len(), shares, held_back])

@@ -5,13 +5,38 @@
 use crate::lines::sheet_lines::{Command, Write};
 use crate::model::chains::{intact, Plans};
 use crate::model::layout::*;
-use crate::model::offices::{self, office, Shares};
+use crate::model::offices::{self, office, Shares, NO_SHARES};
 use crate::model::sheet::Sheet;
 use crate::model::sheet_call::SheetCall;
 use std::collections::{BTreeMap, HashMap};
 
 /// How many calls meet each place.
 pub type Counts = BTreeMap<String, usize>;
+
+/// An error if no line of these files meets a place that is wanted.
+pub fn all_met(counts: &Counts, wanted: &[String], files: &str) -> Result<(), String> {
+    let missing = |place: &&String| !counts.contains_key(*place);
+    let missing: Vec<&String> = wanted.iter().filter(missing).collect();
+    if missing.is_empty() {
+        Ok(())
+    } else {
+        Err(format!("no line of {files} has {missing:#?}"))
+    }
+}
+
+/// What the shares add to, beside so many records.
+pub fn sum_beside(shares: &Shares, records: u64) -> &'static str {
+    let sum: u64 = shares.iter().map(|&share| u64::from(share)).sum();
+    match sum.abs_diff(records) {
+        _ if sum == 0 => "no shares",
+        0 => "the most",
+        1 if sum > records => "one more",
+        _ if sum < records => "fewer",
+        _ if sum < 1 << 32 => "more",
+        _ if sum % (1 << 32) <= records => "in 32 bits few",
+        _ => "past 32 bits",
+    }
+}
 
 /// What the rule asks of a sheet that is not torn.
 pub struct View {
@@ -148,16 +173,7 @@ impl Met {
     fn fresh(&mut self, shares: &Shares, reply: u32, before: Option<View>) {
         let length = self.sheet.words.len();
         let records = records(length).saturating_sub(FIRST_RECORD as usize) as u64;
-        let sum: u64 = shares.iter().map(|&share| u64::from(share)).sum();
-        let fit = match sum.abs_diff(records) {
-            _ if sum == 0 => "no shares",
-            0 => "the most",
-            1 if sum > records => "one more",
-            _ if sum < records => "fewer",
-            _ if sum < 1 << 32 => "more",
-            _ if sum % (1 << 32) <= records => "in 32 bits few",
-            _ => "past 32 bits",
-        };
+        let fit = sum_beside(shares, records);
         let reply = text(reply);
         self.count(format!("fresh: {fit}, {reply}"));
         if [LEAST_WORDS, MOST_WORDS]
@@ -170,7 +186,7 @@ impl Met {
         if let Some(of) = all.filter(|_| records > 0) {
             self.count(format!("fresh: all for office {of}, {reply}"));
         }
-        if sum > 0 && shares.iter().all(|share| *share == shares[0]) {
+        if *shares != NO_SHARES && shares.iter().all(|share| *share == shares[0]) {
             self.count(format!("fresh: all alike, {fit}, {reply}"));
         }
         if before.is_some_and(|view| view.lots > 0) {
