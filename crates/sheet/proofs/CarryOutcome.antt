@@ -33,9 +33,9 @@ module _ (old shares w : List ℕ) where
     wrong_size z = refuses w tt (carry_words old shares w) (carry_rows old shares w) refusal.Size (inl (rw (old_size, z) refl, refl))
 
     module _ (size : size_ok w ≡ true) where
-      pub torn : is_some (read_from old_first_record old) ≡ false → carry old shares w ≡ record { reply = Err refusal.Corrupt; words = w }
+      pub old_corrupt : is_some (read_from old_first_record old) ≡ false → carry old shares w ≡ record { reply = Err refusal.Corrupt; words = w }
       unfolding carry carry_rows
-      torn e = refuses w tt (carry_words old shares w) (carry_rows old shares w) refusal.Corrupt (inr (rw (old_size, size) refl, inl (rw e refl, refl)))
+      old_corrupt e = refuses w tt (carry_words old shares w) (carry_rows old shares w) refusal.Corrupt (inr (rw (old_size, size) refl, inl (rw e refl, refl)))
 
       module _ (intact : is_some (read_from old_first_record old) ≡ true) where
         pub too_many_shares : shares_fit (word shares) w ≡ false → carry old shares w ≡ record { reply = Err refusal.Shares; words = w }

@@ -74,7 +74,7 @@ fn put_records(sheet: &mut [u32], old: &[u32])
     }
 }
 
-#[tactic(auto, using(crate::proofs::CarryOutcome::wrong_old_size, crate::proofs::CarryOutcome::wrong_size, crate::proofs::CarryOutcome::torn, crate::proofs::CarryOutcome::too_many_shares, crate::proofs::CarryOutcome::no_fit, crate::proofs::CarryOutcome::granted, crate::proofs::CarryOutcome::ready, crate::proofs::CarryOutcome::still_ready))]
+#[tactic(auto, using(crate::proofs::CarryOutcome::wrong_old_size, crate::proofs::CarryOutcome::wrong_size, crate::proofs::CarryOutcome::old_corrupt, crate::proofs::CarryOutcome::too_many_shares, crate::proofs::CarryOutcome::no_fit, crate::proofs::CarryOutcome::granted, crate::proofs::CarryOutcome::ready, crate::proofs::CarryOutcome::still_ready))]
 pub fn carry(old: &[u32], sheet: &mut [u32], shares: &[u32; 16]) -> Result<(), Refusal>
     ensures value { result ≡ (carry old.now shares.now sheet.old).reply }
     ensures sheet_after { sheet.new ≡ (carry old.now shares.now sheet.old).words }

@@ -137,13 +137,13 @@ fn wanted_of_calls() -> Places {
     wanted.extend([1, 3, 6, 8, 11].map(|number| format!("inspect: 3 refused {number}")));
     for class in TOO_HIGH {
         wanted.extend([1, 3, 6, 7].map(|number| format!("inspect: {class} refused {number}")));
-        wanted.insert(format!("a class made {class}: torn"));
+        wanted.insert(format!("a class made {class}: corrupt"));
     }
-    wanted.extend(["torn", "not torn"].map(|is| format!("a class made {BLANK}: {is}")));
+    wanted.extend(["corrupt", "not corrupt"].map(|is| format!("a class made {BLANK}: {is}")));
     wanted
 }
 
-/// The lot of a number, if the sheet is not torn.
+/// The lot of a number, if the sheet is not corrupt.
 fn lot_of(sheet: &Sheet, plans: &mut Plans, number: u32) -> Option<Lot> {
     let chains = NEW
         .admits(sheet.words.len())
@@ -165,7 +165,11 @@ fn places_of_calls(lines: &[String]) -> Result<Places, String> {
                 let before = lot_called(&call).and_then(|lot| lot_of(&sheet, &mut plans, lot));
                 let reply = call.make(&mut sheet);
                 if let Some(class) = damage.take() {
-                    let is = if reply == Err(3) { "torn" } else { "not torn" };
+                    let is = if reply == Err(3) {
+                        "corrupt"
+                    } else {
+                        "not corrupt"
+                    };
                     places.insert(format!("a class made {class}: {is}"));
                 }
                 let number = reply.err();

@@ -1,5 +1,5 @@
 //! Carries found by hand (02, change 8): command lines and replies, the words of an old
-//! sheet and of what it becomes, and words that tear it.
+//! sheet and of what it becomes, and words that make it corrupt.
 
 use crate::generators::hand_written::A;
 use crate::generators::office_draws::shares_of;
@@ -108,15 +108,15 @@ fn known_words() -> Result<(), String> {
     let most = shares_of(&[(2, 1), (7, 2), (15, 4)]);
     let more = shares_of(&[(2, 2), (7, 2), (15, 4)]);
     let words = 22 * RECORD_WORDS + 3;
-    let mut torn = old.clone();
-    torn[44] = 0;
+    let mut corrupt = old.clone();
+    corrupt[44] = 0;
     for (old, words, shares, number) in [
         (&old, words, &most, 0),
         (&old, words, &NO_SHARES, 0),
         (&old, words, &more, 18),
         (&old, words - 4, &most, 18),
         (&old, words - 4, &NO_SHARES, 20),
-        (&torn, words - 4, &more, 3),
+        (&corrupt, words - 4, &more, 3),
     ] {
         let mut sheet = Sheet::new(vec![6; words]);
         let reply = sheet.carry(old, shares).err().unwrap_or(0);
@@ -134,8 +134,8 @@ fn known_words() -> Result<(), String> {
     Ok(())
 }
 
-/// Words of `old_by_hand` that tear it, alone, by their places.
-const TEARS: &[(usize, &[u32])] = &[
+/// Words of `old_by_hand` that make it corrupt, alone, by their places.
+const CORRUPTING: &[(usize, &[u32])] = &[
     (0, &[0, 10, 11, 17, 19, 21, u32::MAX]),
     (1, &[0, 10, 11, 14, 18, u32::MAX]),
     (2, &[0, 10, 13, 15, 18]),
@@ -162,8 +162,8 @@ const TEARS: &[(usize, &[u32])] = &[
     (63, &[0, FREE - 1]),
 ];
 
-/// Words that don't tear it, by their places.
-const KEEPS: &[(usize, &[u32])] = &[
+/// Words that don't, by their places.
+const HARMLESS: &[(usize, &[u32])] = &[
     (4, &[6, 1_000]),
     (39, &[0, 3_999_999]),
     (41, &[0, 3_991]),
@@ -174,7 +174,7 @@ const KEEPS: &[(usize, &[u32])] = &[
 ];
 
 fn known_damage() -> Result<(), String> {
-    for (words, number) in [(TEARS, 3), (KEEPS, 0)] {
+    for (words, number) in [(CORRUPTING, 3), (HARMLESS, 0)] {
         for &(at, values) in words {
             for &word in values {
                 let mut old = old_by_hand();

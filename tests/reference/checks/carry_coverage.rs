@@ -78,7 +78,7 @@ fn wanted_of_refusals() -> Vec<String> {
     let all = [
         (1, "old"),
         (1, "second"),
-        (3, "torn"),
+        (3, "corrupt"),
         (18, "shares"),
         (20, "no fit"),
     ];
@@ -173,13 +173,14 @@ fn wanted_of_head() -> Vec<String> {
     let of_one_stage = STAGES + STAGE_WORDS;
     let stages = STAGES..of_one_stage + STAGE_WORDS;
     let plan = [NEXT_UNUSED, K].into_iter().chain(stages);
-    let torn = plan.chain(CLOSED_LOTS..TOTALS_END);
-    wanted.extend(torn.map(|at| format!("word {at} changed: torn")));
-    wanted.extend((of_one_stage..CLOSED_LOTS).map(|at| format!("unused word {at} changed: torn")));
-    wanted.extend((CLOSED_LOTS..TOTALS_END).map(|at| format!("word {at} changed: not torn")));
+    let corrupt = plan.chain(CLOSED_LOTS..TOTALS_END);
+    wanted.extend(corrupt.map(|at| format!("word {at} changed: corrupt")));
+    wanted
+        .extend((of_one_stage..CLOSED_LOTS).map(|at| format!("unused word {at} changed: corrupt")));
+    wanted.extend((CLOSED_LOTS..TOTALS_END).map(|at| format!("word {at} changed: not corrupt")));
     for at in [1, 2] {
         for index in indices() {
-            wanted.push(format!("index in word {at} made {index}: torn"));
+            wanted.push(format!("index in word {at} made {index}: corrupt"));
         }
     }
     wanted
@@ -189,10 +190,10 @@ fn wanted_of_head() -> Vec<String> {
 fn wanted_of_records() -> Vec<String> {
     let (lot, inspection, free) = ("of a lot", "of an inspection", "free");
     let mut wanted = vec![
-        "word never used changed: not torn".to_string(),
-        "word beyond changed: not torn".to_string(),
-        format!("word 0 {lot} changed: not torn"),
-        format!("word 0 {inspection} changed: not torn"),
+        "word never used changed: not corrupt".to_string(),
+        "word beyond changed: not corrupt".to_string(),
+        format!("word 0 {lot} changed: not corrupt"),
+        format!("word 0 {inspection} changed: not corrupt"),
     ];
     for (kind, words) in [
         (lot, &[0, 3][..]),
@@ -200,13 +201,13 @@ fn wanted_of_records() -> Vec<String> {
         (free, &[0, 2, 3]),
     ] {
         for word in words {
-            wanted.push(format!("word {word} {kind} changed: torn"));
+            wanted.push(format!("word {word} {kind} changed: corrupt"));
         }
     }
     for (kind, words) in [(lot, &[1, 2][..]), (inspection, &[1, 2]), (free, &[1])] {
         for word in words {
             for index in indices() {
-                wanted.push(format!("index in word {word} {kind} made {index}: torn"));
+                wanted.push(format!("index in word {word} {kind} made {index}: corrupt"));
             }
         }
     }

@@ -16,7 +16,7 @@ pub struct Met {
     sheets: Sheets,
     plans: Plans,
     pub counts: Counts,
-    /// The last old sheet that was not torn, but for those that differ from one before in a
+    /// The last old sheet that was not corrupt, but for those that differ from one before in a
     /// word.
     sound: Vec<u32>,
     /// After a granted carry whether the point came from which an office below its share is
@@ -216,7 +216,7 @@ impl Met {
         self.enough = Some(view.spare >= lacking);
     }
 
-    /// Whether one word alone differs from the last sheet that was not torn.
+    /// Whether one word alone differs from the last sheet that was not corrupt.
     fn damage(&mut self, old: &[u32], chains: Option<&Chains>) -> bool {
         if old.len() != self.sound.len() {
             return false;
@@ -228,7 +228,11 @@ impl Met {
         let (&[at], Some(sound)) = (&differ[..], sound) else {
             return false;
         };
-        let is = if chains.is_some() { "not torn" } else { "torn" };
+        let is = if chains.is_some() {
+            "not corrupt"
+        } else {
+            "corrupt"
+        };
         let what = word_of(&self.sound, &sound, at);
         let to = match old[at] {
             index @ (0..=11 | 14) => index.to_string(),
@@ -242,21 +246,26 @@ impl Met {
     }
 }
 
-/// The chains of an old sheet that is not torn, whatever its size.
+/// The chains of an old sheet that is not corrupt, whatever its size.
 fn chains(old: &[u32], plans: &mut Plans) -> Option<Chains> {
     let head = old.len() >= OLD.head();
     head.then(|| intact(old, OLD, plans)).flatten()
 }
 
 /// Each refusal that applies, in their order, with what it is for.
-fn refusals(old: &[u32], torn: bool, second: usize, shares: &Shares) -> Vec<(u32, &'static str)> {
+fn refusals(
+    old: &[u32],
+    corrupt: bool,
+    second: usize,
+    shares: &Shares,
+) -> Vec<(u32, &'static str)> {
     let records = (second / 4) as u64;
     let sum: u64 = shares.iter().map(|&share| u64::from(share)).sum();
     let needed = old.first().map_or(0, |&used| u64::from(used) + 4);
     let all = [
         (!(48..=65_536).contains(&old.len()), 1, "old"),
         (!(64..=65_536).contains(&second), 1, "second"),
-        (torn, 3, "torn"),
+        (corrupt, 3, "corrupt"),
         (sum > records.saturating_sub(15), 18, "shares"),
         (records < needed, 20, "no fit"),
     ];

@@ -164,12 +164,12 @@ fn wanted_of_damage() -> Vec<String> {
     let mut wanted = vec![];
     for of in 0..OFFICES {
         for how in ["raised to one more", "made 2^32 - 1"] {
-            wanted.extend(calls.map(|call| format!("share {of} {how}, torn: {call}")));
+            wanted.extend(calls.map(|call| format!("share {of} {how}, corrupt: {call}")));
         }
         for how in ["lowered", "raised to the most"] {
-            wanted.extend(calls.map(|call| format!("share {of} {how}, not torn: {call}")));
+            wanted.extend(calls.map(|call| format!("share {of} {how}, not corrupt: {call}")));
         }
-        wanted.push(format!("share {of} made 0 in 32 bits, torn: tally"));
+        wanted.push(format!("share {of} made 0 in 32 bits, corrupt: tally"));
     }
     wanted
 }

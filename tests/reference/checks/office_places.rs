@@ -38,7 +38,7 @@ pub fn sum_beside(shares: &Shares, records: u64) -> &'static str {
     }
 }
 
-/// What the rule asks of a sheet that is not torn.
+/// What the rule asks of a sheet that is not corrupt.
 pub struct View {
     pub shares: Shares,
     pub held: [u64; OFFICES],
@@ -112,7 +112,7 @@ pub struct Met {
     /// Calls refused 19 since words were last written, and what has given records back
     /// since then.
     held_back: HashMap<(&'static str, u32), Option<String>>,
-    /// A share written alone on a sheet that wasn't torn, and how.
+    /// A share written alone on a sheet that wasn't corrupt, and how.
     written: Option<(usize, &'static str)>,
 }
 
@@ -150,8 +150,8 @@ impl Met {
         let name = call.name();
         self.count(format!("{name}: {}", text(reply)));
         if let Some((of, how)) = self.written {
-            let torn = if reply == 3 { "torn" } else { "not torn" };
-            self.count(format!("share {of} {how}, {torn}: {name}"));
+            let corrupt = if reply == 3 { "corrupt" } else { "not corrupt" };
+            self.count(format!("share {of} {how}, {corrupt}: {name}"));
         }
         match *call {
             SheetCall::Fresh(_, ref shares) => self.fresh(shares, reply, before),

@@ -134,8 +134,8 @@ fn known_sums() -> Result<(), String> {
         let given = sheet.fresh(UNIT, &shares);
         let none = sheet.fresh(UNIT, &NO_SHARES);
         sheet.words[SHARES..HEAD].copy_from_slice(&shares);
-        let torn = sheet.tally().map(|_| ());
-        let found = [refused, given, none, torn];
+        let corrupt = sheet.tally().map(|_| ());
+        let found = [refused, given, none, corrupt];
         if found != [Err(2), expected, Ok(()), expected.map_err(|_| 3)] {
             return Err(format!("shares {offices:?} get {found:?}"));
         }

@@ -152,7 +152,7 @@ fn wanted_of_more_units() -> Places {
 /// What a sheet has been since it was new.
 #[derive(Default)]
 struct Past {
-    /// The words when they were last not torn, whatever their number.
+    /// The words when they were last not corrupt, whatever their number.
     in_order: Vec<u32>,
     /// Places of words written one by one.
     written: HashSet<usize>,
@@ -198,7 +198,7 @@ impl Met {
         Ok(())
     }
 
-    /// A torn sheet is taken as it was before.
+    /// A corrupt sheet is taken as it was before.
     fn estimate(&mut self, number: u32) {
         let reply = self.sheet.estimate(number);
         let Some(chains) = chains(&self.past.in_order, &mut self.plans) else {
@@ -217,7 +217,7 @@ impl Met {
     }
 }
 
-/// The chains of a sheet that is not torn, whatever its size.
+/// The chains of a sheet that is not corrupt, whatever its size.
 fn chains(words: &[u32], plans: &mut Plans) -> Option<Chains> {
     let head = words.len() >= HEAD;
     head.then(|| intact(words, NEW, plans)).flatten()

@@ -1,5 +1,5 @@
 //! Classes above the highest in inspections, with every other refusal that can apply at
-//! once; and class words made blank, which doesn't tear a sheet by itself, or made higher,
+//! once; and class words made blank, which doesn't make a sheet corrupt by itself, or made higher,
 //! which does (02, change 4).
 
 use super::hand_written::{A, TWO};
@@ -38,11 +38,11 @@ impl Script {
             self.fresh(length, 1, A);
             self.blank_and_higher(2);
         }
-        for (length, tear) in [(room(9), "p k 8"), (room(9), ""), (room(6), "")] {
+        for (length, damage) in [(room(9), "p k 8"), (room(9), ""), (room(6), "")] {
             self.fresh(length, 1, A);
             self.lines("o 2, o 6, i 2 3, i 2 3, i 2 3, i 6 3");
-            if !tear.is_empty() {
-                self.line(tear);
+            if !damage.is_empty() {
+                self.line(damage);
             }
             for lot in [0, 4, 2, 6] {
                 self.blank_and_higher(lot);
@@ -51,7 +51,7 @@ impl Script {
         }
     }
 
-    /// A blank shows in a look, unless the lot then was decided before. A higher class tears
+    /// A blank shows in a look, unless the lot then was decided before. A higher class corrupts
     /// the sheet for every call.
     fn each_class_made_another(&mut self) {
         let before = self.words().to_vec();
@@ -72,7 +72,7 @@ impl Script {
     }
 
     /// Each unit of an undecided lot made blank in turn, and all of them: the third nongood
-    /// unit is then the fourth unit, or the third, which tears the sheet.
+    /// unit is then the fourth unit, or the third, which makes the sheet corrupt.
     fn history_made_blank(&mut self) {
         self.fresh(room(10), 0, A);
         self.lines("o 8, i 8 1, i 8 0, i 8 1, i 8 0, l 8");

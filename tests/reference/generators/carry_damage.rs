@@ -1,5 +1,5 @@
 //! Damaged old sheets (02, change 8): each word changed alone, and damage that needs several
-//! words. The second sheet keeps all its words, or shows that the sheet was not torn.
+//! words. The second sheet keeps all its words, or shows that the sheet was not corrupt.
 
 use super::hand_written::{A, B, TWO, UNIT};
 use super::marked_plans::{INSIDE, PUBLISHED};

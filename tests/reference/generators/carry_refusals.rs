@@ -22,7 +22,7 @@ impl Script {
     }
 
     /// A fresh sheet whose words are then cut off, or which has more of them. What is left
-    /// of the head is torn too, or not.
+    /// of the head is corrupt too, or not.
     fn old_sizes(&mut self) {
         let small = [0, 1, 3, 4, 43, 44, 45, 47, 48, 49, 51, 52, 60, 63, 64];
         let large = [-4, -1, 0, 1, 4].map(|more| MOST_WORDS.wrapping_add_signed(more));
@@ -44,7 +44,7 @@ impl Script {
         }
     }
 
-    /// Of words of any value. The old sheet is sound or torn.
+    /// Of words of any value. The old sheet is sound or corrupt.
     fn second_sizes(&mut self) {
         let small = [0, 1, 48, 59, 60, 61, 63, 64, 65, 67, 68, 69];
         let large = [-5, -4, -1, 0, 1, 4].map(|more| MOST_WORDS.wrapping_add_signed(more));

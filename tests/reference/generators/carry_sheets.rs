@@ -184,7 +184,7 @@ impl Script {
         }
     }
 
-    /// A sheet of the new layout is torn under the old one, an old one under the new one,
+    /// A sheet of the new layout is corrupt under the old one, an old one under the new one,
     /// and what a carry made can't be carried again.
     fn between_layouts(&mut self) {
         let old = old_sheet(OLD.room(8), 0, A, "o 6, i 6 1, o 7");

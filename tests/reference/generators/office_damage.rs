@@ -33,8 +33,8 @@ impl Script {
         self.lines("o 3, i 3 0, o 5, i 5 2, i 5 2, o 9, i 9 1, o 20, i 3 0, s 3, t, i 3 0, o 19");
     }
 
-    /// Not torn: with none, and with so many that the sum is the most. Others are granted
-    /// more records, or fewer. Torn: with one above that.
+    /// Not corrupt: with none, and with so many that the sum is the most. Others are granted
+    /// more records, or fewer. Corrupt: with one above that.
     fn share_changed(&mut self, office: usize) {
         let before = self.words().to_vec();
         for share in [0, SHARE + MORE, SHARE + MORE + 1] {

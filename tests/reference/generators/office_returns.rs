@@ -104,7 +104,7 @@ impl Script {
     }
 
     /// All offices but 7 are held back, from opening and from inspecting: 4, 5, 6, 7 and 8
-    /// come first, and the calls that need no record aren't concerned. A torn sheet is 3.
+    /// come first, and the calls that need no record aren't concerned. A corrupt sheet is 3.
     fn beside_held_back(&mut self) {
         for (plan, units) in [
             (UNIT, "i 2 0, o 18"),

@@ -50,7 +50,7 @@ impl Script {
         self.back_to_one_unit();
         self.records_in_turn();
         self.only_units_in_stages();
-        self.only_units_torn();
+        self.only_units_corrupt();
         self.only_units_made_another();
         self.only_unit_on_too_many_words();
         self.full_by_only_units();
@@ -128,7 +128,7 @@ impl Script {
     }
 
     /// The lot and an absent one, with one stage and with two.
-    fn only_units_torn(&mut self) {
+    fn only_units_corrupt(&mut self) {
         for (plan, damages) in [(UNIT, &DAMAGE[..]), (FIRST_UNIT, &DAMAGE[..1])] {
             self.fresh(room(4), 0, plan);
             self.lot(5, &[2]);

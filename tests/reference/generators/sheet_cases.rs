@@ -184,17 +184,17 @@ impl Script {
     }
 
     /// Each refusal, and each two that one call can meet, on full sheets, empty
-    /// ones, torn ones and ones of a wrong size.
+    /// ones, corrupt ones and ones of a wrong size.
     fn refusals_in_order(&mut self) {
         let full = format!("p closed-lots {MOST_CLOSED}");
         let above = format!("p closed-lots {}", MOST_CLOSED + 1);
         for length in [LEAST_WORDS - 1, LEAST_WORDS, room(3), room(5), room(39)] {
-            for tear in ["", "p next-unused @-1", "p k 8", &full, &above] {
+            for damage in ["", "p next-unused @-1", "p k 8", &full, &above] {
                 for plan in [A, B, UNIT] {
                     self.fresh(length, 1, plan);
                     self.lines("o 2, o 6, i 2 2, i 2 2, i 2 2, i 6 0");
-                    if !tear.is_empty() && length >= HEAD {
-                        self.line(tear);
+                    if !damage.is_empty() && length >= HEAD {
+                        self.line(damage);
                     }
                     self.calls_on_lots();
                     self.lines("t, f 5 2 3 1 3, f 5 2 3 1 2, t");

@@ -74,7 +74,7 @@ impl Script {
     }
 
     /// Each word but the shares with values next to its own, and with ones out of all
-    /// limits. Those of a class are to tear the sheet, so the highest class becomes the one
+    /// limits. Those of a class are to make the sheet corrupt, so the highest class becomes the one
     /// above it.
     fn each_word(&mut self) {
         let before = self.words().to_vec();
@@ -100,12 +100,12 @@ impl Script {
         }
     }
 
-    /// Tally, and now and then a call that would write: on a torn sheet, and where the
+    /// Tally, and now and then a call that would write: on a corrupt sheet, and where the
     /// word is after the last record.
     fn damaged(&mut self, turn: usize, after_records: bool) {
-        let torn = self.line("t").starts_with("no 3");
+        let corrupt = self.line("t").starts_with("no 3");
         let call = ["o 6", "i 9 0", "s 5", "c 3", "l 5", "i 3 4", "s 9"][turn % 7];
-        if torn || after_records {
+        if corrupt || after_records {
             self.line(call);
         } else {
             self.line("l 5");

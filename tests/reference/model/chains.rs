@@ -1,4 +1,4 @@
-//! A sheet as its chains have it, under a layout; torn ones have none (01 "Sheet"; 02,
+//! A sheet as its chains have it, under a layout; corrupt ones have none (01 "Sheet"; 02,
 //! changes 7 and 8).
 
 use super::class::HIGHEST;
@@ -68,7 +68,7 @@ impl Lot {
     }
 }
 
-/// A sheet that is not torn, as its chains have it.
+/// A sheet that is not corrupt, as its chains have it.
 pub struct Chains {
     pub judging: Rc<Judging>,
     pub lots: Vec<Lot>,
@@ -158,7 +158,7 @@ fn read_lot(words: &[u32], layout: Layout, judging: &Judging, record: u32) -> Op
     })
 }
 
-/// None is torn.
+/// None is corrupt.
 pub fn intact(words: &[u32], layout: Layout, plans: &mut Plans) -> Option<Chains> {
     let judging = plan_of(words, plans)?;
     let next_unused = words[NEXT_UNUSED] as usize;
