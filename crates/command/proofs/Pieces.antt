@@ -14,7 +14,11 @@ use Rattle.sheetmodel.specs.Calls.{Outcome}
 use Rattle.commandmodel.specs.Printed.{end_of_line, longest_reply, answer}
 use Rattle.commandmodel.specs.Blocks.{most_kept, kept, Fed, after_replies, fed, taken}
 use Rattle.commandmodel.proofs.Blocks.{kept_law, kept_kept, kept_nothing, kept_within, fed_append}
-use Rattle.command.specs.Taking.{Left}
+use Rattle.commandmodel.proofs.Laws.{line_laws}
+use Rattle.command.specs.declared.taking.Taken.{Taken}
+use Rattle.command.specs.Written.{written}
+use Rattle.command.specs.Taking.{Left, Progress}
+use Rattle.command.proofs.Writing.{length_written, written_more, written_nothing}
 
 -- no byte is 10
 abbrev pub Inside : List ℕ → Type 0
@@ -150,48 +154,64 @@ unfolding taken
 taken_some room l w [] h some = omega arith
 taken_some room l w (b ∷ bs) h some = rw (le-leb longest_reply room h) (omega arith)
 
--- ---- the loop over the lines of a block: `rest` is left
+-- ---- the loop over the lines of a block: `rest` is left, and `used` bytes of replies are written
 
-pub record Taking (room : ℕ) (block line₀ sheet₀ replies₀ line sheet replies rest : List ℕ) : Type 0 where
+pub record Taking (block line₀ sheet₀ replies₀ line sheet replies : List ℕ) (used : ℕ) (rest : List ℕ) : Type 0 where
   pub before : List ℕ
   pub split : block ≡ before ++ rest
   pub printed : List ℕ
   pub so_far : fed line₀ sheet₀ before ≡ record { line = line; words = sheet; replies = printed }
-  pub reply_bytes : replies ≡ replies₀ ++ printed
-  pub number : taken (room - length replies₀) line₀ sheet₀ block ≡ length before + taken (room - length replies) line
-      sheet rest
+  pub count : used ≡ length printed
+  pub inside : used ≤ length replies₀
+  pub bytes : replies ≡ written replies₀ 0 printed
+  pub number : taken (length replies₀) line₀ sheet₀ block
+      ≡ length before + taken (length replies₀ - used) line sheet rest
 
-module _ (room : ℕ) (block line₀ sheet₀ replies₀ : List ℕ) where
-  pub begins : Taking room block line₀ sheet₀ replies₀ line₀ sheet₀ replies₀ block
+module _ (block line₀ sheet₀ replies₀ : List ℕ) where
+  pub begins : Taking block line₀ sheet₀ replies₀ line₀ sheet₀ replies₀ 0 block
   unfolding fed
   begins = record {
     before = [];
     split = refl;
     printed = [];
     so_far = refl;
-    reply_bytes = sym (append-nil replies₀);
-    number = omega arith;
+    count = refl;
+    inside = omega arith;
+    bytes = written_nothing replies₀;
+    number = omega (arith, ap (λ (k : ℕ). taken k line₀ sheet₀ block) (less_none (length replies₀)));
   }
 
-  module _ (line sheet replies rest : List ℕ)
-      (t : Taking room block line₀ sheet₀ replies₀ line sheet replies rest) where
+  module _ (line sheet replies : List ℕ) (used : ℕ) (rest : List ℕ)
+      (t : Taking block line₀ sheet₀ replies₀ line sheet replies used rest) where
     pub within : length t.before + length rest ≡ length block
     within = omega (arith, ap length t.split, length-append t.before rest)
 
+    pub same_length : length replies ≡ length replies₀
+    same_length = ap length t.bytes ∙ length_written replies₀ 0 t.printed (omega (arith, t.count, t.inside))
+
     -- nothing more is taken
-    pub stopped : (at : ℕ) → at ≡ length block - length rest → taken (room - length replies) line sheet rest ≡ 0
-        → (at ≡ taken (room - length replies₀) line₀ sheet₀ block) × Left (fed line₀ sheet₀ (take at block)) replies₀
-        line sheet replies
-    stopped at e none = (
-      omega (arith, t.number, within),
+    pub stopped : (r : Taken) → r.bytes ≡ length block - length rest → r.replies ≡ used
+        → taken (length replies₀ - used) line sheet rest ≡ 0
+        → (r.bytes ≡ taken (length replies₀) line₀ sheet₀ block)
+        × Left (fed line₀ sheet₀ (take r.bytes block)) replies₀ r line sheet replies × Progress block replies₀ r
+    stopped r e u none = (
+      all,
       rw (ended, t.so_far)
-          (record { line_bytes = refl; words = refl; reply_bytes = t.reply_bytes }),
+          (record { line_bytes = refl; words = refl; reply_length = u ∙ t.count; reply_bytes = t.bytes }),
+      record {
+        bytes_within = omega arith;
+        replies_within = omega (arith, u, t.inside);
+        some_byte = λ roomy some. omega (arith, all, taken_some (length replies₀) line₀ sheet₀ block roomy some);
+      },
     )
       where
-        count : at ≡ length t.before + 0
+        all : r.bytes ≡ taken (length replies₀) line₀ sheet₀ block
+        all = omega (arith, t.number, within)
+
+        count : r.bytes ≡ length t.before + 0
         count = omega (arith, within)
 
-        ended : take at block ≡ t.before
+        ended : take r.bytes block ≡ t.before
         ended = (λ i. take (count i) (t.split i)) ∙ take-append-add t.before rest 0 ∙ append-nil t.before
 
     fed_more : (piece : List ℕ) → fed line₀ sheet₀ (t.before ++ piece) ≡ after_replies t.printed (fed line sheet piece)
@@ -199,51 +219,54 @@ module _ (room : ℕ) (block line₀ sheet₀ replies₀ : List ℕ) where
         ∙ ap (λ (f : Fed). after_replies f.replies (fed f.line f.words piece)) t.so_far
 
     -- the rest does not end the line
-    pub kept_rest : longest_reply ≤ room - length replies → Inside rest → 1 ≤ length rest → (line' : List ℕ)
+    pub kept_rest : longest_reply ≤ length replies₀ - used → Inside rest → 1 ≤ length rest → (line' : List ℕ)
         → line' ≡ kept line rest
-        → Taking room block line₀ sheet₀ replies₀ line' sheet replies []
+        → Taking block line₀ sheet₀ replies₀ line' sheet replies used []
     kept_rest roomy inside some line' e = record {
       before = t.before ++ rest;
       split = t.split ∙ sym (append-nil (t.before ++ rest));
       printed = t.printed;
       so_far = fed_more rest ∙ ap (after_replies t.printed) (piece_fed line sheet rest inside some)
           ∙ (λ i. record { line = sym e i; words = sheet; replies = append-nil t.printed i });
-      reply_bytes = t.reply_bytes;
+      count = t.count;
+      inside = t.inside;
+      bytes = t.bytes;
       number = omega (
         arith,
         t.number,
         length-append t.before rest,
-        taken_piece (room - length replies) line sheet rest
-            inside roomy,
-        no_byte (room - length replies) line' sheet,
+        taken_piece (length replies₀ - used) line sheet rest inside roomy,
+        no_byte (length replies₀ - used) line' sheet,
       );
     }
 
-    -- the line ends with these bytes
-    pub answered_line : longest_reply ≤ room - length replies → (text rest' : List ℕ)
+    -- the line ends with these bytes, and its reply is written after those before
+    pub answered_line : longest_reply ≤ length replies₀ - used → (text rest' : List ℕ)
         → rest ≡ (text ++ (end_of_line ∷ [])) ++ rest' → Inside text
-        → (line' sheet' replies' : List ℕ) → line' ≡ [] → sheet' ≡ (answer (kept line text) sheet).words
-        → replies' ≡ replies ++ (answer (kept line text) sheet).reply
-        → Taking room block line₀ sheet₀ replies₀ line' sheet' replies' rest'
-    answered_line roomy text rest' cut inside line' sheet' replies' l s r = record {
+        → (line' sheet' reply replies' : List ℕ) (used' : ℕ) → line' ≡ []
+        → sheet' ≡ (answer (kept line text) sheet).words → reply ≡ (answer (kept line text) sheet).reply
+        → replies' ≡ written replies used reply → used' ≡ used + length reply
+        → Taking block line₀ sheet₀ replies₀ line' sheet' replies' used' rest'
+    answered_line roomy text rest' cut inside line' sheet' reply replies' used' l s p r u = record {
       before = t.before ++ (text ++ (end_of_line ∷ []));
       split = t.split ∙ ap (λ (x : List ℕ). t.before ++ x) cut
           ∙ sym (append_assoc t.before (text ++ (end_of_line ∷ [])) rest');
-      printed = t.printed ++ (answer (kept line text) sheet).reply;
+      printed = t.printed ++ reply;
       so_far =
           fed_more (text ++ (end_of_line ∷ [])) ∙ ap (after_replies t.printed) (line_fed line sheet text inside)
-          ∙ (λ i. record {
-            line = sym l i;
-            words = sym s i;
-            replies = t.printed ++ (answer (kept line text) sheet).reply;
-          });
-      reply_bytes = r ∙ ap (λ (x : List ℕ). x ++ (answer (kept line text) sheet).reply) t.reply_bytes
-          ∙ append_assoc replies₀ t.printed (answer (kept line text) sheet).reply;
+          ∙ (λ i. record { line = sym l i; words = sym s i; replies = t.printed ++ sym p i });
+      count = omega (arith, u, t.count, length-append t.printed reply);
+      inside = omega (arith, u, short, t.inside);
+      bytes =
+          r ∙ (λ i. written (t.bytes i) (place i) reply)
+          ∙ written_more replies₀ 0 t.printed (omega (arith, t.count, t.inside)) reply
+          (omega (arith, short, t.count, t.inside));
       number =
-          t.number ∙ ap (λ (x : List ℕ). length t.before + taken (room - length replies) line sheet x)
+          t.number ∙ ap (λ (x : List ℕ). length t.before + taken (length replies₀ - used) line sheet x)
           (cut ∙ append_assoc text (end_of_line ∷ []) rest')
-          ∙ ap (λ (k : ℕ). length t.before + k) (taken_line (room - length replies) line sheet text rest' inside roomy)
-          ∙ counted (taken (room - length replies - length (answer (kept line text) sheet).reply) []
+          ∙ ap (λ (k : ℕ). length t.before + k)
+          (taken_line (length replies₀ - used) line sheet text rest' inside roomy)
+          ∙ counted (taken (length replies₀ - used - length (answer (kept line text) sheet).reply) []
           (answer (kept line text) sheet).words rest')
           ∙ (λ i. length (t.before ++ (text ++ (end_of_line ∷ []))) + taken (room_left i) (sym l i) (sym s i) rest');
     }
@@ -257,5 +280,11 @@ module _ (room : ℕ) (block line₀ sheet₀ replies₀ : List ℕ) where
               (end_of_line ∷ []),
         )
 
-        room_left : room - length replies - length (answer (kept line text) sheet).reply ≡ room - length replies'
-        room_left = omega (arith, ap length r, length-append replies (answer (kept line text) sheet).reply)
+        short : length reply ≤ longest_reply
+        short = omega (arith, ap length p, (line_laws (kept line text) sheet).longest)
+
+        place : used ≡ 0 + length t.printed
+        place = omega (arith, t.count)
+
+        room_left : length replies₀ - used - length (answer (kept line text) sheet).reply ≡ length replies₀ - used'
+        room_left = omega (arith, ap length p, u)

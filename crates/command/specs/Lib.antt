@@ -1,3 +1,4 @@
 pub mod Read
+pub mod Written
 pub mod Taking
 pub mod Fields

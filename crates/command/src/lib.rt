@@ -8,4 +8,4 @@ mod reading;
 mod replies;
 mod taking;
 
-pub use taking::{Line, end_input, take_bytes};
+pub use taking::{Line, Taken, end_input, take_bytes};

@@ -1,9 +1,9 @@
 // The bytes of an input, block by block, to replies on a sheet. Document 01, "Program lots".
-ghost use Rattle.std.specs.Prelude.{◌≡◌, ◌+◌, ◌-◌, ◌≤◌, eqb, [], ◌++◌, length, take, position};
+ghost use Rattle.std.specs.Prelude.{◌≡◌, ◌+◌, ◌≤◌, eqb, [], length, take, position};
 ghost use Rattle.commandmodel.specs.Blocks.{kept, fed, input_ended, taken};
 ghost use Rattle.commandmodel.specs.Printed.{end_of_line, longest_reply, answer};
-ghost use Rattle.command.specs.Taking.{Left};
-ghost use Rattle.arrayvec.specs.ArrayVec.{array_vec_len};
+ghost use Rattle.command.specs.Written.{written, Gives};
+ghost use Rattle.command.specs.Taking.{Left, Progress};
 
 use crate::answering::answer;
 use crate::printing::{LONGEST_REPLY, Reply};
@@ -46,23 +46,40 @@ fn line_end(bytes: &[u8]) -> Option<usize>
     bytes.iter().position(|byte| *byte == b'\n')
 }
 
-// Takes the bytes of a block while there is room for one more reply. The result is how many are taken.
-pub fn take_bytes<const N: usize>(
+// How many bytes were taken, and how many of replies were written.
+#[derive(Clone, Copy)]
+pub struct Taken {
+    pub bytes: usize,
+    pub replies: usize,
+}
+
+// Puts a reply into the replies from a place on. The result is the place after it.
+fn put_reply(replies: &mut [u8], at: usize, reply: &Reply) -> usize
+    requires { at + length reply.now.items ≤ length replies.old }
+    ensures end { result ≡ at + length reply.now.items }
+    ensures replies_after { replies.new ≡ written replies.old at reply.now.items }
+{
+    let end = at + reply.len();
+    replies[at..end].copy_from_slice(reply.as_slice());
+    end
+}
+
+// Takes the bytes of a block while there is room for one more reply. The replies are a slice, of any length: what is
+// not written to stays as it is.
+pub fn take_bytes(
     block: &[u8],
     line: &mut Line,
     sheet: &mut [u32],
-    replies: &mut ArrayVec<u8, N>,
-) -> usize
-    ensures bytes { result ≡ taken (N - array_vec_len replies.old) line.old.items sheet.old block.now }
-    ensures within { result ≤ length block.now }
-    ensures some_byte { array_vec_len replies.old + longest_reply ≤ N → 1 ≤ length block.now → 1 ≤ result }
-    ensures left { Left (fed line.old.items sheet.old (take result block.now)) replies.old.items line.new.items
-        sheet.new replies.new.items }
+    replies: &mut [u8],
+) -> Taken
+    ensures bytes_value { result.bytes ≡ taken (length replies.old) line.old.items sheet.old block.now }
+    ensures left { Left (fed line.old.items sheet.old (take result.bytes block.now)) replies.old result line.new.items sheet.new replies.new }
+    ensures progress { Progress block.now replies.old result }
 {
     let mut rest = block;
-    // Not a `for` over the block's `split_inclusive`: tried, the proof did not close in a function with a const
-    // parameter.
-    while !rest.is_empty() && LONGEST_REPLY <= replies.remaining_capacity() {
+    let mut used = 0;
+    // Not a `for` over the block's `split_inclusive`: how many lines are taken depends on the room for replies.
+    while !rest.is_empty() && LONGEST_REPLY <= replies.len() - used {
         match line_end(rest) {
             None => {
                 keep(line, rest);
@@ -70,23 +87,26 @@ pub fn take_bytes<const N: usize>(
             }
             Some(end) => {
                 let reply = answer_rest(line, &rest[..end], sheet);
-                replies.try_extend_from_slice(reply.as_slice()).unwrap();
+                used = put_reply(replies, used, &reply);
                 rest = &rest[end + 1..];
             }
         }
     }
-    block.len() - rest.len()
+    Taken {
+        bytes: block.len() - rest.len(),
+        replies: used,
+    }
 }
 
-// Answers the line that has not ended yet, if it has a byte. There is room for a reply.
-#[tactic(auto, unfolding(commandmodel::specs::Blocks::input_ended))]
-pub fn end_input<const N: usize>(line: &Line, sheet: &mut [u32], replies: &mut ArrayVec<u8, N>)
-    requires { array_vec_len replies.old + longest_reply ≤ N }
-    ensures replies_after { replies.new.items ≡ replies.old.items ++ (input_ended line.now.items sheet.old).reply }
-    ensures sheet_after { sheet.new ≡ (input_ended line.now.items sheet.old).words }
+// Answers the line that has not ended yet, if it has a byte. The result is the number of bytes written; the others of
+// `replies` stay as they are.
+pub fn end_input(line: &Line, sheet: &mut [u32], replies: &mut [u8]) -> usize
+    requires { longest_reply ≤ length replies.old }
+    ensures { Gives (input_ended line.now.items sheet.old) replies.old result replies.new sheet.new }
 {
-    if !line.is_empty() {
-        let reply = answer(line.as_slice(), sheet);
-        replies.try_extend_from_slice(reply.as_slice()).unwrap();
+    if line.is_empty() {
+        return 0;
     }
+    let reply = answer(line.as_slice(), sheet);
+    put_reply(replies, 0, &reply)
 }

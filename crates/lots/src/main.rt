@@ -2,7 +2,6 @@
 // sheet.
 #![tactic(auto)]
 
-use arrayvec::ArrayVec;
 use command::Line;
 use std::io::{self, Read};
 
@@ -11,7 +10,7 @@ use std::io::{self, Read};
 struct Session {
     line: Line,
     sheet: [u32; 16384],
-    replies: ArrayVec<u8, 16384>,
+    replies: [u8; 16384],
 }
 
 impl Session {
@@ -21,24 +20,22 @@ impl Session {
         let mut rest = block;
         // Not a `for`: how many bytes are taken depends on the room for replies.
         while !rest.is_empty() {
-            self.replies.clear();
             let taken = command::take_bytes(
                 rest,
                 &mut self.line,
                 &mut self.sheet,
                 &mut self.replies,
             );
-            rt.write_all(self.replies.as_slice())?;
-            rest = &rest[taken..];
+            rt.write_all(&self.replies[..taken.replies])?;
+            rest = &rest[taken.bytes..];
         }
         Ok(())
     }
 
     // Answers the line that lacks its byte 10, if there is one.
     fn end_input(&mut self, rt: &impl Print) -> io::Result<()> {
-        self.replies.clear();
-        command::end_input(&self.line, &mut self.sheet, &mut self.replies);
-        rt.write_all(self.replies.as_slice())
+        let used = command::end_input(&self.line, &mut self.sheet, &mut self.replies);
+        rt.write_all(&self.replies[..used])
     }
 }
 
@@ -49,7 +46,7 @@ fn answer_input<R: Read>(rt: &impl Print, input: &mut R) -> io::Result<()> {
     let mut session = Session {
         line: Line::new(),
         sheet: [0; 16384],
-        replies: ArrayVec::new(),
+        replies: [0; 16384],
     };
     let mut block = [0u8; 4096];
     for _ in 0..u64::MAX {
