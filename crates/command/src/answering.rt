@@ -16,23 +16,25 @@ fn whole_stages(n: usize) -> bool
     n % 5 == 0 && 5 <= n && n <= 35
 }
 
-// Answers a line, which is without the byte 10.
-pub fn answer(line: &[u8], sheet: &mut [u32]) -> Reply
-    ensures reply { result.items ≡ (answer line.now sheet.old).reply }
+// Answers a line, which is without the byte 10. The reply is put in the place of what `reply` held.
+pub fn answer(line: &[u8], sheet: &mut [u32], reply: &mut Reply)
+    ensures reply_after { reply.new.items ≡ (answer line.now sheet.old).reply }
     ensures sheet_after { sheet.new ≡ (answer line.now sheet.old).words }
 {
     let Some(words) = read_words(line) else {
-        return refused(Refusal::Line);
+        return refused(Refusal::Line, reply);
     };
     match (words.letter, words.numbers.as_slice()) {
         // Every office gets share 0.
-        (b'p', plan) if whole_stages(plan.len()) => printed(sheet::fresh(sheet, plan, &[0; 16])),
-        (b'o', [lot]) => printed(sheet::open(sheet, *lot)),
-        (b'i', [lot, class]) => printed(sheet::inspect(sheet, *lot, *class)),
-        (b's', [lot]) => printed(sheet::strike(sheet, *lot)),
-        (b'l', [lot]) => printed(sheet::look(sheet, *lot)),
-        (b'c', [lot]) => printed(sheet::close(sheet, *lot)),
-        (b't', []) => printed(sheet::tally(sheet)),
-        _ => refused(Refusal::Line),
+        (b'p', plan) if whole_stages(plan.len()) => {
+            printed(sheet::fresh(sheet, plan, &[0; 16]), reply)
+        }
+        (b'o', [lot]) => printed(sheet::open(sheet, *lot), reply),
+        (b'i', [lot, class]) => printed(sheet::inspect(sheet, *lot, *class), reply),
+        (b's', [lot]) => printed(sheet::strike(sheet, *lot), reply),
+        (b'l', [lot]) => printed(sheet::look(sheet, *lot), reply),
+        (b'c', [lot]) => printed(sheet::close(sheet, *lot), reply),
+        (b't', []) => printed(sheet::tally(sheet), reply),
+        _ => refused(Refusal::Line, reply),
     }
 }

@@ -10,13 +10,14 @@ pub const LONGEST_REPLY: usize = 65;
 
 pub type Reply = ArrayVec<u8, LONGEST_REPLY>;
 
-// A word and numbers, each after a space.
-pub fn reply_line(word: &[u8], numbers: &[u32]) -> Reply
+// A word and numbers, each after a space, in place of what `reply` held. A reply is written where it is kept: one given
+// back is copied a few times on its way.
+pub fn reply_line(reply: &mut Reply, word: &[u8], numbers: &[u32])
     requires { length word.now + (11 * length numbers.now + 1) ≤ longest_reply }
-    ensures { result.items ≡ reply_line word.now numbers.now }
+    ensures { reply.new.items ≡ reply_line word.now numbers.now }
 {
-    let mut reply = Reply::new();
     let mut digits = Buffer::new();
+    reply.clear();
     reply.try_extend_from_slice(word).unwrap();
     for n in numbers {
         reply.push(b' ');
@@ -24,5 +25,4 @@ pub fn reply_line(word: &[u8], numbers: &[u32]) -> Reply
         reply.try_extend_from_slice(text.as_bytes()).unwrap();
     }
     reply.push(b'\n');
-    reply
 }

@@ -12,8 +12,8 @@ pub trait Granted {
 
     ghost line: { Self → List ℕ };
 
-    fn line(self) -> Reply
-        ensures { result.items ≡ line self };
+    fn put_line(self, reply: &mut Reply)
+        ensures { reply.new.items ≡ line self };
 }
 
 impl Granted for () {
@@ -21,8 +21,8 @@ impl Granted for () {
 
     ghost line = { done_line };
 
-    fn line(self) -> Reply {
-        reply_line(b"ok", &[])
+    fn put_line(self, reply: &mut Reply) {
+        reply_line(reply, b"ok", &[])
     }
 }
 
@@ -31,12 +31,12 @@ impl Granted for Shown {
 
     ghost line = { look_line };
 
-    fn line(self) -> Reply {
+    fn put_line(self, reply: &mut Reply) {
         let numbers = [self.units, self.good, self.marginal, self.bad, self.blanks];
         match self.answer {
-            Answer::GoOn => reply_line(b"undecided", &numbers),
-            Answer::Accept => reply_line(b"accepted", &numbers),
-            Answer::Reject => reply_line(b"rejected", &numbers),
+            Answer::GoOn => reply_line(reply, b"undecided", &numbers),
+            Answer::Accept => reply_line(reply, b"accepted", &numbers),
+            Answer::Reject => reply_line(reply, b"rejected", &numbers),
         }
     }
 }
@@ -46,7 +46,7 @@ impl Granted for Totals {
 
     ghost line = { tally_line };
 
-    fn line(self) -> Reply {
+    fn put_line(self, reply: &mut Reply) {
         let numbers = [
             self.accepted,
             self.rejected,
@@ -54,21 +54,21 @@ impl Granted for Totals {
             self.marginal,
             self.bad,
         ];
-        reply_line(b"tally", &numbers)
+        reply_line(reply, b"tally", &numbers)
     }
 }
 
-pub fn refused(reason: Refusal) -> Reply
-    ensures { result.items ≡ refusal reason }
+pub fn refused(reason: Refusal, reply: &mut Reply)
+    ensures { reply.new.items ≡ refusal reason }
 {
-    reply_line(b"no", &[reason.number()])
+    reply_line(reply, b"no", &[reason.number()])
 }
 
-pub fn printed<T: Granted>(reply: Result<T, Refusal>) -> Reply
-    ensures { result.items ≡ reply_printed T.line reply }
+pub fn printed<T: Granted>(answer: Result<T, Refusal>, reply: &mut Reply)
+    ensures { reply.new.items ≡ reply_printed T.line answer }
 {
-    match reply {
-        Ok(granted) => granted.line(),
-        Err(reason) => refused(reason),
+    match answer {
+        Ok(granted) => granted.put_line(reply),
+        Err(reason) => refused(reason, reply),
     }
 }

@@ -24,19 +24,18 @@ fn keep(line: &mut Line, bytes: &[u8])
 
 // Answers the line that ends with `rest`, and leaves an empty one.
 #[tactic(auto, using(crate::proofs::Kept::kept_rest))]
-fn answer_rest(line: &mut Line, rest: &[u8], sheet: &mut [u32]) -> Reply
-    ensures reply { result.items ≡ (answer (kept line.old.items rest.now) sheet.old).reply }
+fn answer_rest(line: &mut Line, rest: &[u8], sheet: &mut [u32], reply: &mut Reply)
+    ensures reply_after { reply.new.items ≡ (answer (kept line.old.items rest.now) sheet.old).reply }
     ensures sheet_after { sheet.new ≡ (answer (kept line.old.items rest.now) sheet.old).words }
     ensures line_after { line.new.items ≡ [] }
 {
     // A line that lies whole in the block is not copied.
     if line.is_empty() {
-        return answer(rest, sheet);
+        return answer(rest, sheet, reply);
     }
     keep(line, rest);
-    let reply = answer(line.as_slice(), sheet);
+    answer(line.as_slice(), sheet, reply);
     line.clear();
-    reply
 }
 
 // Where the line ends that begins with these bytes.
@@ -78,6 +77,7 @@ pub fn take_bytes(
 {
     let mut rest = block;
     let mut used = 0;
+    let mut reply = Reply::new();
     // Not a `for` over the block's `split_inclusive`: how many lines are taken depends on the room for replies.
     while !rest.is_empty() && LONGEST_REPLY <= replies.len() - used {
         match line_end(rest) {
@@ -86,7 +86,7 @@ pub fn take_bytes(
                 rest = &[];
             }
             Some(end) => {
-                let reply = answer_rest(line, &rest[..end], sheet);
+                answer_rest(line, &rest[..end], sheet, &mut reply);
                 used = put_reply(replies, used, &reply);
                 rest = &rest[end + 1..];
             }
@@ -107,6 +107,7 @@ pub fn end_input(line: &Line, sheet: &mut [u32], replies: &mut [u8]) -> usize
     if line.is_empty() {
         return 0;
     }
-    let reply = answer(line.as_slice(), sheet);
+    let mut reply = Reply::new();
+    answer(line.as_slice(), sheet, &mut reply);
     put_reply(replies, 0, &reply)
 }

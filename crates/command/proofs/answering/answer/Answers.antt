@@ -8,54 +8,54 @@ use Rattle.command.proofs.answering.answer.Goals as goal
 pub returns-in_default : goal.returns-in_default
 returns-in_default c =
     let a = not_called c.args.line.now c.args.sheet.now c.in_default.ensures c.refused.ensures in
-    record { reply = a.reply; sheet_after = a.sheet_after }
+    record { reply_after = a.reply; sheet_after = a.sheet_after }
 
 pub returns-in-112-default : goal.returns-in-112-default
 returns-in-112-default c =
     let a = by_p c.args.line.now c.args.sheet.now _ _ _ c.in-Some.ensures c.as_slice-plan.ensures.value
     c.printed.ensures c.in-112-default.is-0 (sym c.whole_stages.ensures ∙ c.if-whole_stages.true)
     c.fresh.ensures.value c.fresh.ensures.sheet_after in
-    record { reply = a.reply; sheet_after = a.sheet_after }
+    record { reply_after = a.reply; sheet_after = a.sheet_after }
 
 pub returns-in-111-len1 : goal.returns-in-111-len1
 returns-in-111-len1 c =
     let a = by_o c.args.line.now c.args.sheet.now _ _ _ c.in-Some.ensures c.as_slice-plan.ensures.value
     c.printed-in-111-len1.ensures c.in-111-len1.is-0 (omega arith)
     c.open.ensures.value c.open.ensures.sheet_after in
-    record { reply = a.reply; sheet_after = a.sheet_after }
+    record { reply_after = a.reply; sheet_after = a.sheet_after }
 
 pub returns-in-105-len2 : goal.returns-in-105-len2
 returns-in-105-len2 c =
     let a = by_i c.args.line.now c.args.sheet.now _ _ _ c.in-Some.ensures c.as_slice-plan.ensures.value
     c.printed-in-105-len2.ensures c.in-105-len2.is-0 (omega arith)
     c.inspect.ensures.value c.inspect.ensures.sheet_after in
-    record { reply = a.reply; sheet_after = a.sheet_after }
+    record { reply_after = a.reply; sheet_after = a.sheet_after }
 
 pub returns-in-115-len1 : goal.returns-in-115-len1
 returns-in-115-len1 c =
     let a = by_s c.args.line.now c.args.sheet.now _ _ _ c.in-Some.ensures c.as_slice-plan.ensures.value
     c.printed-in-115-len1.ensures c.in-115-len1.is-0 (omega arith)
     c.strike.ensures.value c.strike.ensures.sheet_after in
-    record { reply = a.reply; sheet_after = a.sheet_after }
+    record { reply_after = a.reply; sheet_after = a.sheet_after }
 
 pub returns-in-108-len1 : goal.returns-in-108-len1
 returns-in-108-len1 c =
     let a = by_l c.args.line.now c.args.sheet.now _ _ _ c.in-Some.ensures c.as_slice-plan.ensures.value
     c.in-108-len1.is-0 (omega arith) c.look.ensures c.printed-in-108-len1.ensures refl in
-    record { reply = a.reply; sheet_after = a.sheet_after }
+    record { reply_after = a.reply; sheet_after = a.sheet_after }
 
 pub returns-in-99-len1 : goal.returns-in-99-len1
 returns-in-99-len1 c =
     let a = by_c c.args.line.now c.args.sheet.now _ _ _ c.in-Some.ensures c.as_slice-plan.ensures.value
     c.printed-in-99-len1.ensures c.in-99-len1.is-0 (omega arith)
     c.close.ensures.value c.close.ensures.sheet_after in
-    record { reply = a.reply; sheet_after = a.sheet_after }
+    record { reply_after = a.reply; sheet_after = a.sheet_after }
 
 pub returns-in-116-empty : goal.returns-in-116-empty
 returns-in-116-empty c =
     let a = by_t c.args.line.now c.args.sheet.now _ _ _ c.in-Some.ensures c.as_slice-plan.ensures.value
     c.in-116-empty.is-0 (omega arith) c.tally.ensures c.printed-in-116-empty.ensures refl in
-    record { reply = a.reply; sheet_after = a.sheet_after }
+    record { reply_after = a.reply; sheet_after = a.sheet_after }
 
 pub returns-in_default-2 : goal.returns-in_default-2
 returns-in_default-2 c =
@@ -80,4 +80,4 @@ returns-in_default-2 c =
     ] in
     let a = by_none c.args.line.now c.args.sheet.now b _ ns c.in-Some.ensures c.as_slice-plan.ensures.value none
     c.refused-in_default-2.ensures in
-    record { reply = a.reply; sheet_after = a.sheet_after }
+    record { reply_after = a.reply; sheet_after = a.sheet_after }
