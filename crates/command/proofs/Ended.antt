@@ -1,5 +1,5 @@
 -- The input's end: without a byte there is no line, and else the line is answered.
-use Rattle.std.proofs.Common.{◌≡◌, ◌∙◌, refl, ap, sym, ℕ, ◌+◌, ◌≤◌, List, length, arith}
+use Rattle.std.proofs.Common.{◌≡◌, ◌∙◌, refl, ap, ℕ, ◌+◌, ◌≤◌, List, length, arith}
 use borrow.Author.Tests.{ne_eqb}
 use Rattle.commandmodel.specs.Printed.{longest_reply, answer}
 use Rattle.commandmodel.specs.Blocks.{input_ended}

@@ -1,8 +1,8 @@
 -- The first field of a line is what stands before the first space. Assumes nothing.
-use Prim.Native.Nat.{ℕ, zero, suc}
+use Prim.Native.Nat.{zero, suc}
 use mathlib.Core.Path.{◌≡◌, refl, ap}
 use mathlib.Core.Bool.{Bool, true, false, cond}
-use mathlib.Core.List.{List, [], ◌∷◌}
+use mathlib.Core.List.{[], ◌∷◌}
 use lib.ListN.{take, drop}
 use lib.Dec.{eqb}
 use Rattle.std.specs.List.{onto_first}

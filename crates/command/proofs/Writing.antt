@@ -1,7 +1,7 @@
 -- Bytes written one after another.
 use Rattle.std.proofs.Common.{◌≡◌, ◌∙◌, refl, ap, sym, ℕ, ◌+◌, ◌≤◌, List, [], ◌++◌, length, take, drop, append_assoc}
 use Rattle.std.proofs.Common.{length-append, length-drop, arith}
-use Rattle.std.proofs.Math.Seq.{paste, take_all, take_at, drop-append-add, drop-drop, length-take-le}
+use Rattle.std.proofs.Math.Seq.{take_all, take_at, drop-append-add, drop-drop, length-take-le}
 use Rattle.std.proofs.lemmas.Slice.{put_mid-paste}
 use borrow.Rule.Slice.PartMut.{put_mid}
 use Rattle.command.specs.Written.{written}

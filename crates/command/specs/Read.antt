@@ -1,8 +1,7 @@
--- What the code's words of a line stand for.
-use Rattle.std.specs.Prelude.{Option, None, Some}
-use Rattle.command.specs.declared.reading.Words.{Words}
+-- What the letter and the numbers that the code reads from a line stand for.
+use Rattle.std.specs.Prelude.{ℕ, List, Option, None, Some}
 use Rattle.commandmodel.specs.Command.{Command, forms, by_letter}
 
-abbrev pub meaning : Option Words → Option Command
-meaning None = None
-meaning (Some words) = by_letter forms words.letter words.numbers.items
+abbrev pub meaning : Option ℕ → List ℕ → Option Command
+meaning None ns = None
+meaning (Some letter) ns = by_letter forms letter ns

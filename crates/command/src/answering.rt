@@ -5,7 +5,7 @@ ghost use Rattle.commandmodel.specs.Command.{whole_stages};
 ghost use Rattle.commandmodel.specs.Printed.{answer};
 
 use crate::printing::Reply;
-use crate::reading::read_words;
+use crate::reading::{Numbers, read_words};
 use crate::replies::{printed, refused};
 use plan::Refusal;
 
@@ -21,10 +21,11 @@ pub fn answer(line: &[u8], sheet: &mut [u32], reply: &mut Reply)
     ensures reply_after { reply.new.items ≡ (answer line.now sheet.old).reply }
     ensures sheet_after { sheet.new ≡ (answer line.now sheet.old).words }
 {
-    let Some(words) = read_words(line) else {
+    let mut numbers = Numbers::new();
+    let Some(letter) = read_words(line, &mut numbers) else {
         return refused(Refusal::Line, reply);
     };
-    match (words.letter, words.numbers.as_slice()) {
+    match (letter, numbers.as_slice()) {
         // Every office gets share 0.
         (b'p', plan) if whole_stages(plan.len()) => {
             printed(sheet::fresh(sheet, plan, &[0; 16]), reply)

@@ -6,16 +6,13 @@ ghost use Rattle.command.specs.Read.{meaning};
 use crate::decimal::read_number;
 use arrayvec::ArrayVec;
 
-// A line's letter, and the numbers after it. No command takes more numbers than a plan of 7 stages.
-#[derive(Drop)]
-pub struct Words {
-    pub letter: u8,
-    pub numbers: ArrayVec<u32, 35>,
-}
+// The numbers of a line. No command takes more than a plan of 7 stages.
+pub type Numbers = ArrayVec<u32, 35>;
 
-// Reads a line's fields, which are parted by one space.
-pub fn read_words(line: &[u8]) -> Option<Words>
-    ensures { command line.now ≡ meaning result }
+// Reads a line's fields, which are parted by one space: a letter, which is given back, and numbers, which take the
+// place of what `numbers` held.
+pub fn read_words(line: &[u8], numbers: &mut Numbers) -> Option<u8>
+    ensures { command line.now ≡ meaning result numbers.new.items }
 {
     if 255 < line.len() {
         return None;
@@ -24,12 +21,9 @@ pub fn read_words(line: &[u8]) -> Option<Words>
     let [letter] = fields.next()? else {
         return None;
     };
-    let mut words = Words {
-        letter: *letter,
-        numbers: ArrayVec::new(),
-    };
+    numbers.clear();
     for field in fields {
-        words.numbers.try_push(read_number(field)?).ok()?;
+        numbers.try_push(read_number(field)?).ok()?;
     }
-    Some(words)
+    Some(*letter)
 }

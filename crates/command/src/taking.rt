@@ -13,6 +13,13 @@ use arrayvec::ArrayVec;
 // long is known by it.
 pub type Line = ArrayVec<u8, 256>;
 
+// How many bytes were taken, and how many of replies were written.
+#[derive(Clone, Copy)]
+pub struct Taken {
+    pub bytes: usize,
+    pub replies: usize,
+}
+
 // Adds bytes to a line, as long as there is room.
 #[tactic(auto, using(crate::proofs::Kept::kept_room))]
 fn keep(line: &mut Line, bytes: &[u8])
@@ -45,13 +52,6 @@ fn line_end(bytes: &[u8]) -> Option<usize>
     bytes.iter().position(|byte| *byte == b'\n')
 }
 
-// How many bytes were taken, and how many of replies were written.
-#[derive(Clone, Copy)]
-pub struct Taken {
-    pub bytes: usize,
-    pub replies: usize,
-}
-
 // Puts a reply into the replies from a place on. The result is the place after it.
 fn put_reply(replies: &mut [u8], at: usize, reply: &Reply) -> usize
     requires { at + length reply.now.items ≤ length replies.old }
@@ -65,12 +65,7 @@ fn put_reply(replies: &mut [u8], at: usize, reply: &Reply) -> usize
 
 // Takes the bytes of a block while there is room for one more reply. The replies are a slice, of any length: what is
 // not written to stays as it is.
-pub fn take_bytes(
-    block: &[u8],
-    line: &mut Line,
-    sheet: &mut [u32],
-    replies: &mut [u8],
-) -> Taken
+pub fn take_bytes(block: &[u8], line: &mut Line, sheet: &mut [u32], replies: &mut [u8]) -> Taken
     ensures bytes_value { result.bytes ≡ taken (length replies.old) line.old.items sheet.old block.now }
     ensures left { Left (fed line.old.items sheet.old (take result.bytes block.now)) replies.old result line.new.items sheet.new replies.new }
     ensures progress { Progress block.now replies.old result }

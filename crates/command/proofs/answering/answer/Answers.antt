@@ -60,7 +60,7 @@ returns-in-116-empty c =
 pub returns-in_default-2 : goal.returns-in_default-2
 returns-in_default-2 c =
     let ns = c.as_slice-plan.result.now in
-    let b = c.in-Some.words.letter in
+    let b = c.in-Some.letter in
     let none : by_letter forms b ns ≡ None = elim c.in_default-2.branch [
       | goal.in_default-2-via-in-112-default+else-whole_stages w ↦ no_p b ns (grind arith)
           (sym w.whole_stages.ensures ∙ w.if-whole_stages.false)

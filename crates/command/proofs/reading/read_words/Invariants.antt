@@ -3,4 +3,4 @@ use Rattle.command.proofs.Numbers.{Reads}
 use Rattle.command.proofs.reading.read_words.Given as goal
 
 abbrev pub invariant-loop-field : goal.invariant-loop-field
-invariant-loop-field l = Reads l.line l.words.letter l.words.numbers.items l.field-iterator
+invariant-loop-field l = Reads l.line l.letter l.numbers.items l.field-iterator

@@ -1,4 +1,4 @@
-use Rattle.std.proofs.Common.{◌≡◌, ◌∙◌, ap, arith, length}
+use Rattle.std.proofs.Common.{◌∙◌, ap, arith, length}
 use Rattle.commandmodel.specs.Printed.{answer}
 use Rattle.commandmodel.proofs.Laws.{line_laws}
 use Rattle.command.proofs.Ended.{no_line, a_line}

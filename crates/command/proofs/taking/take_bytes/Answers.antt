@@ -1,5 +1,4 @@
-use Rattle.std.proofs.Common.{◌≡◌, ◌∙◌, refl, sym, ap, arith, ℕ, ◌+◌, ◌-◌, ◌≤◌, [], length, take, drop}
-use Rattle.std.proofs.lemmas.Grind.{common_steps}
+use Rattle.std.proofs.Common.{◌≡◌, ◌∙◌, refl, sym, ap, arith, ◌+◌, ◌-◌, ◌≤◌, [], length, take, drop}
 use Rattle.std.proofs.lemmas.List.{nil_from_length}
 use borrow.Author.Rules.{part_to_end}
 use Rattle.commandmodel.specs.Blocks.{kept, taken}
