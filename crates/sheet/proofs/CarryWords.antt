@@ -1,17 +1,18 @@
 -- A carried sheet, written part by part: the header's indexes, its stages and totals, the shares, and the records one by one. Assumes
 -- nothing.
-use Prim.Native.Nat.{ℕ, ◌+◌, ◌-◌, ◌*◌, ◌≤◌, ◌<◌}
+use Prim.Native.Nat.{ℕ, suc, ◌+◌, ◌-◌, ◌*◌, ◌≤◌, ◌<◌}
 use mathlib.Core.Path.{◌≡◌, refl, sym, ap, ◌∙◌}
 use mathlib.Core.List.{List, [], ◌∷◌, ◌++◌, append_assoc}
 use native.Mathlib.Omega.{arith}
 use lib.ListN.{length, set, take, drop, length-take, length-drop, length-append}
 use lib.Seq.{paste}
-use Rattle.sheetmodel.specs.Layout.{word, field, put_record, next_unused, first_lot, first_free, stage_count, shares_start, header_size, offices, old_first_record}
+use Rattle.sheetmodel.specs.Layout.{word, field, put_record, next_unused, first_lot, first_free, stage_count, plan_start, shares_start, header_size, offices, old_first_record}
 use Rattle.sheetmodel.specs.Carry.{raised, carried_header, carried_records, carry_words}
 use Rattle.sheetmodel.proofs.ForSheet.{as_carried, header_length, raised_length, raised_word}
 use Rattle.sheet.specs.Carrying.{Carrying}
 use Rattle.sheet.proofs.Pasted.{one_stored, parted, over}
 use borrow.Rule.Slice.PartMut.{put_mid}
+use Rattle.std.proofs.lemmas.List.{drop_more}
 use Rattle.std.proofs.lemmas.Slice.{put_mid-paste}
 
 -- ---- records in the making
@@ -43,49 +44,68 @@ module _ (w old : List ℕ) (ready : Carrying old w) (j : ℕ) (low : old_first_
 -- ---- the header
 
 -- the next record never used, the first lot and the first free record
-abbrev pub with_indexes : List ℕ → List ℕ → List ℕ
-with_indexes w old = set (set (set w next_unused (word old next_unused + 4)) first_lot (raised (word old first_lot))) first_free (raised (word old first_free))
+abbrev with_indexes : List ℕ → List ℕ → List ℕ
+with_indexes w old =
+    set (set (set w next_unused (word old next_unused + 4)) first_lot (raised (word old first_lot)))
+    first_free (raised (word old first_free))
+
+-- and the number of stages
+abbrev pub first_words : List ℕ → List ℕ → List ℕ
+first_words w old = set (with_indexes w old) stage_count (word old stage_count)
 
 abbrev indexes : List ℕ → List ℕ
 indexes old = (word old next_unused + 4) ∷ raised (word old first_lot) ∷ raised (word old first_free) ∷ []
 
-indexes_written : (w old : List ℕ) → stage_count ≤ length w → with_indexes w old ≡ indexes old ++ drop stage_count w
-indexes_written (a ∷ b ∷ c ∷ rest) old long = refl
-indexes_written [] old long = absurd (omega arith)
-indexes_written (a ∷ []) old long = absurd (omega arith)
-indexes_written (a ∷ b ∷ []) old long = absurd (omega arith)
+abbrev before_stages : List ℕ → List ℕ
+before_stages old = indexes old ++ (word old stage_count ∷ [])
+
+first_written : (w old : List ℕ) → plan_start ≤ length w → first_words w old ≡ before_stages old ++ drop plan_start w
+first_written (a ∷ b ∷ c ∷ d ∷ rest) old long = refl
+first_written [] old long = absurd (omega arith)
+first_written (a ∷ []) old long = absurd (omega arith)
+first_written (a ∷ b ∷ []) old long = absurd (omega arith)
+first_written (a ∷ b ∷ c ∷ []) old long = absurd (omega arith)
 
 module _ (old shares w : List ℕ) (sixteen : length shares ≡ offices) (ready : Carrying old w) where
-  -- the words from the number of stages to the totals
+  -- the words of the stages and of the totals
   abbrev room : ℕ
-  room = shares_start - stage_count
+  room = shares_start - plan_start
 
   abbrev kept : List ℕ
-  kept = take room (drop stage_count old)
+  kept = take room (drop plan_start old)
 
   kept_length : length kept ≡ room
-  kept_length = omega (arith, ready.long, length-take room (drop stage_count old), length-drop stage_count old)
+  kept_length = omega (arith, ready.long, length-take room (drop plan_start old), length-drop plan_start old)
 
-  stages_written : paste (with_indexes w old) stage_count kept room ≡ carried_header old ++ drop shares_start w
+  count_and_kept : word old stage_count ∷ kept ≡ take (suc room) (drop stage_count old)
+  count_and_kept = ap (take (suc room)) (sym (drop_more old stage_count 0 (omega (arith, ready.long))))
+
+  stages_written : paste (first_words w old) plan_start kept room ≡ carried_header old ++ drop shares_start w
   stages_written =
-      over (indexes old) (take room (drop stage_count w)) (drop shares_start w) kept stage_count room
-      (indexes_written w old (omega (arith, ready.room)) ∙ ap (λ (u : List ℕ). indexes old ++ u) (parted w stage_count room))
-      refl (omega (arith, ready.room, ready.begun, length-take room (drop stage_count w), length-drop stage_count w)) kept_length
+      let last : List ℕ = drop shares_start w in
+      let there = length-take room (drop plan_start w) in
+      over (before_stages old) (take room (drop plan_start w)) last kept plan_start room
+      (first_written w old (omega (arith, ready.room)) ∙
+      ap (λ (u : List ℕ). before_stages old ++ u) (parted w plan_start room))
+      refl (omega (arith, ready.room, ready.begun, there, length-drop plan_start w)) kept_length ∙
+      ap (λ (u : List ℕ). indexes old ++ (u ++ last)) count_and_kept
 
-  header_written : paste (paste (with_indexes w old) stage_count kept room) shares_start shares offices ≡ carried_header old ++ (shares ++ drop header_size w)
+  abbrev written : List ℕ
+  written = carried_header old ++ (shares ++ drop header_size w)
+
+  header_written : paste (paste (first_words w old) plan_start kept room) shares_start shares offices ≡ written
   header_written =
+      let there = length-take offices (drop shares_start w) in
       over (carried_header old) (take offices (drop shares_start w)) (drop header_size w) shares shares_start offices
       (stages_written ∙ ap (λ (u : List ℕ). carried_header old ++ u) (parted w shares_start offices))
-      (header_length old ready.long) (omega (arith, ready.room, ready.begun, length-take offices (drop shares_start w), length-drop shares_start w)) sixteen
+      (header_length old ready.long) (omega (arith, ready.room, ready.begun, there, length-drop shares_start w)) sixteen
 
-  -- as the code writes it: the old words and the shares each take the place of as many words
-  pub header_put : (ks ss : List ℕ) → ks ≡ kept → ss ≡ shares →
-      put_mid shares_start offices (put_mid stage_count room (with_indexes w old) ks) ss ≡ carried_header old ++ (shares ++ drop header_size w)
-  header_put ks ss ek es =
-      rw (ek, es)
-      (put_mid-paste shares_start offices _ shares shares offices refl refl (sym sixteen) ∙
-      ap (λ (v : List ℕ). paste v shares_start shares offices) (put_mid-paste stage_count room (with_indexes w old) kept kept room refl refl (sym kept_length)) ∙
-      header_written)
+  -- as the code writes it: the shares take the place of as many words
+  pub header_put : (ss : List ℕ) → ss ≡ shares →
+      put_mid shares_start offices (paste (first_words w old) plan_start kept (length kept)) ss ≡ written
+  header_put ss es =
+      rw (es, kept_length)
+      (put_mid-paste shares_start offices _ shares shares offices refl refl (sym sixteen) ∙ header_written)
 
   -- ---- the records after it
 

@@ -79,14 +79,15 @@ module _ (p shares w : List ℕ) (adm : admitted p ≡ true) (sixteen : length s
       (omega (arith, length-take offices (drop shares_start w), length-drop shares_start w)) sixteen ∙
       sym (grouped (shares ++ drop header_size w))
 
-  -- as the code writes it: zeros, the plan and the shares each take the place of as many words
-  pub header_put : (zs ps ss : List ℕ) (n : ℕ) → zs ≡ zeros → ps ≡ p → ss ≡ shares → n ≡ length p →
-      put_mid shares_start offices (put_mid plan_start n (put_mid plan_start room (first_words w (length p / 5)) zs) ps) ss ≡ fresh_words p shares w
-  header_put zs ps ss n ez ep es en =
-      let stage_count_is : length p / 5 ≡ k = omega (arith, (shape p adm).whole) in
-      rw (ez, ep, es, en, stage_count_is)
+  -- as the code writes it: zeros and the shares take the place of as many words, and the plan stands on zeros
+  pub header_put : (zs ss : List ℕ) {v : List ℕ} → zs ≡ zeros →
+      v ≡ paste (put_mid plan_start room (first_words w (length p / 5)) zs) plan_start p (length p) → ss ≡ shares →
+      put_mid shares_start offices v ss ≡ fresh_words p shares w
+  header_put zs ss ez ev es =
+      let count_is : length p / 5 ≡ k = omega (arith, (shape p adm).whole) in
+      let length_is = sym (length-replicate {A = ℕ} room 0) in
+      rw (ev, ez, es, count_is)
       (put_mid-paste shares_start offices _ shares shares offices refl refl (sym sixteen) ∙
-      ap (λ (v : List ℕ). paste v shares_start shares offices)
-      (put_mid-paste plan_start (length p) _ p p (length p) refl refl refl ∙
-      ap (λ (v : List ℕ). paste v plan_start p (length p)) (put_mid-paste plan_start room (first_words w k) zeros zeros room refl refl (sym (length-replicate {A = ℕ} room 0)))) ∙
+      ap (λ (u : List ℕ). paste (paste u plan_start p (length p)) shares_start shares offices)
+      (put_mid-paste plan_start room (first_words w k) zeros zeros room refl refl length_is) ∙
       header_written)

@@ -13,6 +13,7 @@ mod FreedChain
 mod TotalsKept
 mod Unlinked
 mod Pasted
+mod FivesPut
 mod HeaderWords
 mod CarryWords
 mod Requires

@@ -7,9 +7,10 @@ ghost use Rattle.sheetmodel.specs.Rows.{is_some};
 ghost use Rattle.sheetmodel.specs.Carry.{raised, carried_header, carried_records, carry};
 ghost use Rattle.sheet.specs.Carrying.{Carrying, raised_record};
 
+use crate::fives::put_fives;
 use crate::layout::{
     FIRST_FREE, FIRST_LOT, LEAST_SIZE, NEXT_UNUSED, OFFICES, OLD_FIRST_RECORD, OLD_LEAST_SIZE,
-    SHARES_START, STAGE_COUNT,
+    PLAN_START, SHARES_START, STAGE_COUNT,
 };
 use crate::record::{Record, put_record, record_at, record_count};
 use crate::size::{Sheet, size_ok};
@@ -58,7 +59,8 @@ fn put_header(sheet: &mut [u32], old: &[u32], shares: &[u32; 16])
     sheet[NEXT_UNUSED] = old[NEXT_UNUSED] + RISE;
     sheet[FIRST_LOT] = raised(old[FIRST_LOT]);
     sheet[FIRST_FREE] = raised(old[FIRST_FREE]);
-    sheet[STAGE_COUNT..SHARES_START].copy_from_slice(&old[STAGE_COUNT..SHARES_START]);
+    sheet[STAGE_COUNT] = old[STAGE_COUNT];
+    put_fives(sheet, &old[PLAN_START..SHARES_START]);
     sheet[SHARES_START..SHARES_START + OFFICES].copy_from_slice(shares);
 }
 

@@ -5,6 +5,7 @@ ghost use Rattle.plan.specs.Plan.{admitted};
 ghost use Rattle.sheetmodel.specs.Layout.{least_size};
 ghost use Rattle.sheetmodel.specs.Calls.{fresh, fresh_words};
 
+use crate::fives::put_fives;
 use crate::layout::{
     FIRST_FREE, FIRST_LOT, FIRST_RECORD, LEAST_SIZE, NEXT_UNUSED, OFFICES, PLAN_START,
     SHARES_START, STAGE_COUNT,
@@ -22,7 +23,7 @@ fn put_header(sheet: &mut [u32], plan: &[u32], shares: &[u32; 16])
     sheet[FIRST_FREE] = 0;
     sheet[STAGE_COUNT] = (plan.len() / 5) as u32;
     sheet[PLAN_START..SHARES_START].fill(0);
-    sheet[PLAN_START..PLAN_START + plan.len()].copy_from_slice(plan);
+    put_fives(sheet, plan);
     sheet[SHARES_START..SHARES_START + OFFICES].copy_from_slice(shares);
 }
 

@@ -7,6 +7,7 @@ mod carrying;
 mod chain;
 mod closing;
 mod estimating;
+mod fives;
 mod freeing;
 mod fresh_sheet;
 mod granting;
