@@ -31,7 +31,7 @@ count_run-after-requires c =
     let s = c.in-Some.ensures.steps.1 in
     let i = c.loop-stage.invariant in
     let t = stage_read c.in-Some.stage.now (chunks_exact_rest c.next.new.self) c.args.self.now.admitted i.reached s.0
-    (s.1 ∙ i.size) c.min.ensures
+    (s.1 ∙ i.size) (omega (arith, c.min.ensures))
     (sym c.is_empty.ensures ∙ c.if-is_empty.false) c.split_at.ensures.front refl in
     omega (arith, t.few, c.split_at.ensures.front_len)
 
@@ -40,7 +40,7 @@ answer-requires c =
     let s = c.in-Some.ensures.steps.1 in
     let i = c.loop-stage.invariant in
     let t = stage_read c.in-Some.stage.now (chunks_exact_rest c.next.new.self) c.args.self.now.admitted i.reached s.0
-    (s.1 ∙ i.size) c.min.ensures
+    (s.1 ∙ i.size) (omega (arith, c.min.ensures))
     (sym c.is_empty.ensures ∙ c.if-is_empty.false) c.split_at.ensures.front c.count_run-after.ensures in
     ((shape c.args.self.now.plan.now c.args.self.now.admitted).thousand_units, omega (arith, t.few, t.read))
 
@@ -49,7 +49,7 @@ units-requires c =
     let s = c.in-Some.ensures.steps.1 in
     let i = c.loop-stage.invariant in
     let t = stage_read c.in-Some.stage.now (chunks_exact_rest c.next.new.self) c.args.self.now.admitted i.reached s.0
-    (s.1 ∙ i.size) c.min.ensures
+    (s.1 ∙ i.size) (omega (arith, c.min.ensures))
     (sym c.is_empty.ensures ∙ c.if-is_empty.false) c.split_at.ensures.front c.count_run-after.ensures in
     omega (arith, t.few, t.read)
 
@@ -58,7 +58,7 @@ before_stop-requires c =
     let s = c.in-Some.ensures.steps.1 in
     let i = c.loop-stage.invariant in
     let t = stage_read c.in-Some.stage.now (chunks_exact_rest c.next.new.self) c.args.self.now.admitted i.reached s.0
-    (s.1 ∙ i.size) c.min.ensures
+    (s.1 ∙ i.size) (omega (arith, c.min.ensures))
     (sym c.is_empty.ensures ∙ c.if-is_empty.false) c.split_at.ensures.front c.count_run-after.ensures in
     rw c.units.ensures (t.stopped (ap goes_on (sym c.answer.ensures) ∙ sym c.goes_on.ensures ∙ c.if-not-goes_on.true))
 
@@ -67,7 +67,7 @@ loop-stage-preserved c =
     let s = c.in-Some.ensures.steps.1 in
     let i = c.loop-stage.invariant in
     let t = stage_read c.in-Some.stage.now (chunks_exact_rest c.next.new.self) c.args.self.now.admitted i.reached s.0
-    (s.1 ∙ i.size) c.min.ensures
+    (s.1 ∙ i.size) (omega (arith, c.min.ensures))
     (sym c.is_empty.ensures ∙ c.if-is_empty.false) c.split_at.ensures.front c.count_run-after.ensures in
     let on = is_on _ (sym c.goes_on.ensures ∙ c.if-not-goes_on.false) in
     record {
