@@ -11,9 +11,6 @@ ghost use Rattle.arrayvec.specs.ArrayVec.{array_vec_len};
 use arrayvec::ArrayVec;
 pub use lines::answer_lines;
 
-// The numbers of a line.
-pub type Words = ArrayVec<u32, 128>;
-
 // The value of a decimal digit; std's `to_digit` is of a char.
 fn digit(byte: u8) -> Option<u8> {
     match byte {
@@ -32,8 +29,8 @@ pub fn number(word: &[u8]) -> Option<u32> {
     value
 }
 
-// The numbers of a line's rest, each after one space; none if a word is no number, or if there are too many.
-pub fn words(text: &[u8]) -> Option<Words> {
+// The numbers of a line's rest, each after one space; none if a word is no number, or if there are more than N.
+pub fn words<const N: usize>(text: &[u8]) -> Option<ArrayVec<u32, N>> {
     let mut list = ArrayVec::new();
     if text.is_empty() {
         return Some(list);
@@ -44,9 +41,10 @@ pub fn words(text: &[u8]) -> Option<Words> {
     Some(list)
 }
 
-// The classes that a text begins with, a digit each.
-pub fn classes(text: &[u8]) -> ArrayVec<u8, 4096>
-    ensures { array_vec_len result ≤ length text.now }
+// The classes that a text begins with, a digit each, and not more than N.
+pub fn classes<const N: usize>(text: &[u8]) -> ArrayVec<u8, N>
+    ensures within { array_vec_len result ≤ length text.now }
+    ensures most { array_vec_len result ≤ N }
 {
     let mut list = ArrayVec::new();
     for byte in text {

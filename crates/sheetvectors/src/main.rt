@@ -19,7 +19,7 @@ fn command(rt: &impl Print, line: &[u8], sheet: &mut Sheet, aside: &mut Sheet) -
     let [kind, text @ ..] = line else {
         return bad_line(rt);
     };
-    let Some(list) = cases::words(text) else {
+    let Some(list) = cases::words::<128>(text) else {
         return bad_line(rt);
     };
     match (kind, list.as_slice()) {

@@ -1,16 +1,17 @@
 // The answers, one line each: a reply, then the digest of all words of the sheet.
+use cases::print::{last, number, text};
 use plan::Refusal;
 use sheet::{Estimate, Shown, Totals};
 use std::io;
 
-// What a granted call gives. Not `Display`: `()` has none, and a lot's state as a number is of the test format alone.
+// What a granted call gives, and a space after it. Not `Display`: `()` has none, and a lot's state as a number is of the test format alone.
 pub trait Granted {
     fn print(self, rt: &impl Print) -> io::Result<()>;
 }
 
 impl Granted for () {
     fn print(self, rt: &impl Print) -> io::Result<()> {
-        print!(rt; "ok")
+        text(rt, b"ok ")
     }
 }
 
@@ -25,7 +26,7 @@ impl Granted for Shown {
             blanks,
         } = self;
         print!(rt;
-            "{} {units} {good} {marginal} {bad} {blanks}",
+            "{} {units} {good} {marginal} {bad} {blanks} ",
             answer.number()
         )
     }
@@ -40,13 +41,13 @@ impl Granted for Totals {
             marginal,
             bad,
         } = self;
-        print!(rt; "{accepted} {rejected} {good} {marginal} {bad}")
+        print!(rt; "{accepted} {rejected} {good} {marginal} {bad} ")
     }
 }
 
 impl Granted for Estimate {
     fn print(self, rt: &impl Print) -> io::Result<()> {
-        print!(rt; "{self}")
+        print!(rt; "{self} ")
     }
 }
 
@@ -64,7 +65,10 @@ pub fn reply<T: Granted>(
 ) -> io::Result<()> {
     match reply {
         Ok(granted) => granted.print(rt)?,
-        Err(refusal) => print!(rt; "no {refusal}")?,
+        Err(refusal) => {
+            text(rt, b"no ")?;
+            number(rt, u64::from(refusal.number()))?;
+        }
     }
-    println!(rt; " {}", digest(words))
+    last(rt, digest(words))
 }

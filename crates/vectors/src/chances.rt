@@ -29,7 +29,7 @@ pub fn answer<F: Fn(&[u32], [u32; 3], &mut [u64]) -> Result<Bounds, Refusal>>(
 ) -> io::Result<()>
     requires { F.IsAlwaysCallable call }
 {
-    let Some(words) = cases::words(text) else {
+    let Some(words) = cases::words::<128>(text) else {
         return print::bad_line(rt);
     };
     let [w0, w1, w2, needed, plan @ ..] = words.as_slice() else {

@@ -7,9 +7,12 @@ pub fn judged(rt: &impl Print, text: &[u8]) -> io::Result<()> {
     let [b' ', b'.', rest @ ..] = text else {
         return print::bad_line(rt);
     };
-    let list = cases::classes(rest);
-    let Some(plan) = cases::words(&rest[list.len()..]) else {
+    let list = cases::classes::<4096>(rest);
+    let Some(plan) = cases::words::<128>(&rest[list.len()..]) else {
         return print::bad_line(rt);
     };
-    print::reply(rt, judge::judge(plan.as_slice(), list.as_slice()))
+    match judge::judge(plan.as_slice(), list.as_slice()) {
+        Ok(judgement) => print::judgement(rt, judgement),
+        Err(refusal) => print::refusal(rt, refusal),
+    }
 }
