@@ -4,7 +4,8 @@ use plan::Refusal;
 use sheet::{Estimate, Shown, Totals};
 use std::io;
 
-// What a granted call gives, and a space after it. Not `Display`: `()` has none, and a lot's state as a number is of the test format alone.
+// What a granted call gives, and a space after it. Not `Display`: `()` has none, and a lot's state as a number is of
+// the test format alone.
 pub trait Granted {
     fn print(self, rt: &impl Print) -> io::Result<()>;
 }
