@@ -21,10 +21,12 @@ pub fn patterns(chart: Result<Chart, Refusal>) -> Result<Bounds, Refusal>
 }
 
 // `KIND W0 W1 W2 N P1 P2 ..`, or with `l` GOOD, MARGINAL and BAD for the weights: low and high by the kind's call. No
-// word of the N of scratch is 0 before the call, since no call may count on that.
+// word of the N of scratch is 0 before the call, since no call may count on that. The scratch is the caller's: one made
+// here would be filled whole for every line.
 pub fn answer<F: Fn(&[u32], [u32; 3], &mut [u64]) -> Result<Bounds, Refusal>>(
     rt: &impl Print,
     text: &[u8],
+    scratch: &mut [u64],
     call: F,
 ) -> io::Result<()>
     requires { F.IsAlwaysCallable call }
@@ -35,9 +37,9 @@ pub fn answer<F: Fn(&[u32], [u32; 3], &mut [u64]) -> Result<Bounds, Refusal>>(
     let [w0, w1, w2, needed, plan @ ..] = words.as_slice() else {
         return print::bad_line(rt);
     };
-    let mut scratch = [u64::MAX; 7200];
     let Some(scratch) = scratch.get_mut(..*needed as usize) else {
         return print::bad_line(rt);
     };
+    scratch.fill(u64::MAX);
     print::reply(rt, call(plan, [*w0, *w1, *w2], scratch))
 }

@@ -12,26 +12,26 @@ use cases::print;
 use chances::{answer, patterns};
 use std::io;
 
-fn answer_case(rt: &impl Print, line: &[u8]) -> io::Result<()> {
+fn answer_case(rt: &impl Print, line: &[u8], scratch: &mut [u64]) -> io::Result<()> {
     let [kind, text @ ..] = line else {
         return print::bad_line(rt);
     };
     match kind {
         b'a' => plans::admission(rt, text),
         b'j' => lists::judged(rt, text),
-        b'c' => answer(rt, text, |plan, [w0, w1, w2], scratch| {
+        b'c' => answer(rt, text, scratch, |plan, [w0, w1, w2], scratch| {
             chance::chance(plan, w0, w1, w2, scratch)
         }),
-        b'f' => answer(rt, text, |plan, [w0, w1, w2], scratch| {
+        b'f' => answer(rt, text, scratch, |plan, [w0, w1, w2], scratch| {
             patterns(chance::chart(plan, w0, w1, w2, scratch))
         }),
-        b'l' => answer(rt, text, |plan, [good, marginal, bad], scratch| {
+        b'l' => answer(rt, text, scratch, |plan, [good, marginal, bad], scratch| {
             chance::lot_chance(plan, good, marginal, bad, scratch)
         }),
-        b'u' => answer(rt, text, |plan, [w0, w1, w2], scratch| {
+        b'u' => answer(rt, text, scratch, |plan, [w0, w1, w2], scratch| {
             chance::units(plan, w0, w1, w2, scratch)
         }),
-        b'v' => answer(rt, text, |plan, [w0, w1, w2], scratch| {
+        b'v' => answer(rt, text, scratch, |plan, [w0, w1, w2], scratch| {
             patterns(chance::units_chart(plan, w0, w1, w2, scratch))
         }),
         _ => print::bad_line(rt),
@@ -39,5 +39,7 @@ fn answer_case(rt: &impl Print, line: &[u8]) -> io::Result<()> {
 }
 
 fn main(rt: HostRuntime) -> io::Result<()> {
-    cases::answer_lines(&rt, rt.stdin(), |line| answer_case(&rt, line))
+    // enough for every admitted plan
+    let mut scratch = [0u64; 7200];
+    cases::answer_lines(&rt, rt.stdin(), |line| answer_case(&rt, line, &mut scratch))
 }
