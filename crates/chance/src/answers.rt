@@ -8,7 +8,14 @@ pub struct Interval<T> {
     pub high: T,
 }
 
+// Low and high, one space between.
 impl<T: fmt::Display> fmt::Display for Interval<T> {
+    ghost use Rattle.std.specs.Prelude.{Some, ◌∷◌, []};
+    ghost use Rattle.std.specs.Fmt.{◌++?◌};
+    ghost use Rattle.plan.specs.Printed.{space};
+
+    ghost output = { λ i. T.output i.low ++? Some (space ∷ []) ++? T.output i.high };
+
     fn fmt<W: fmt::Write>(&self, f: &mut fmt::Formatter<W>) -> fmt::Result {
         write!(f, "{} {}", self.low, self.high)
     }

@@ -2,3 +2,4 @@ pub mod Event
 pub mod Judge
 pub mod Run
 pub mod Laws
+pub mod Printed

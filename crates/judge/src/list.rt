@@ -19,6 +19,11 @@ pub struct Judgement {
 
 // The stop of each way and the event, in 01's numbers.
 impl fmt::Display for Judgement {
+    ghost use Rattle.std.specs.Prelude.{Some};
+    ghost use Rattle.judge.specs.Printed.{judgement_printed};
+
+    ghost output = { λ j. Some (judgement_printed j) };
+
     fn fmt<W: fmt::Write>(&self, f: &mut fmt::Formatter<W>) -> fmt::Result {
         let Judgement {
             uncurtailed,

@@ -20,6 +20,11 @@ pub struct Stop {
 
 // The units and the answer, in 01's numbers.
 impl fmt::Display for Stop {
+    ghost use Rattle.std.specs.Prelude.{Some};
+    ghost use Rattle.judge.specs.Printed.{stop_printed};
+
+    ghost output = { λ s. Some (stop_printed s) };
+
     fn fmt<W: fmt::Write>(&self, f: &mut fmt::Formatter<W>) -> fmt::Result {
         let (counts, answer) = (self.counts, self.answer);
         let units = counts.good as u64 + counts.marginal as u64 + counts.bad as u64;

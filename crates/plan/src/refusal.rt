@@ -80,7 +80,13 @@ impl Refusal {
     }
 }
 
+// Its number.
 impl fmt::Display for Refusal {
+    ghost use Rattle.std.specs.Prelude.{Some, decimal};
+    ghost use Rattle.plan.specs.Refusal.{number};
+
+    ghost output = { λ r. Some (decimal (number r)) };
+
     fn fmt<W: fmt::Write>(&self, f: &mut fmt::Formatter<W>) -> fmt::Result {
         write!(f, "{}", self.number())
     }

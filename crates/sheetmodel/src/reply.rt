@@ -34,6 +34,11 @@ pub struct Estimate {
 }
 
 impl fmt::Display for Estimate {
+    ghost use Rattle.std.specs.Prelude.{Some};
+    ghost use Rattle.sheetmodel.specs.Printed.{estimate_printed};
+
+    ghost output = { λ e. Some (estimate_printed e) };
+
     fn fmt<W: fmt::Write>(&self, f: &mut fmt::Formatter<W>) -> fmt::Result {
         write!(
             f,
