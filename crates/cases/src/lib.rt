@@ -6,9 +6,7 @@ mod lines;
 pub mod print;
 
 ghost use Rattle.std.specs.Prelude.{◌≤◌, length};
-ghost use Rattle.arrayvec.specs.ArrayVec.{array_vec_len};
 
-use arrayvec::ArrayVec;
 pub use lines::answer_lines;
 
 // The value of a decimal digit; std's `to_digit` is of a char.
@@ -29,31 +27,31 @@ pub fn number(word: &[u8]) -> Option<u32> {
     value
 }
 
-// The numbers of a line's rest, each after one space; none if a word is no number, or if there are more than N.
-pub fn words<const N: usize>(text: &[u8]) -> Option<ArrayVec<u32, N>> {
-    let mut list = ArrayVec::new();
-    if text.is_empty() {
-        return Some(list);
-    }
-    for word in text.strip_prefix(b" ")?.split(|byte| *byte == b' ') {
-        list.try_push(number(word)?).ok()?;
-    }
-    Some(list)
-}
-
-// The classes that a text begins with, a digit each, and not more than N.
-pub fn classes<const N: usize>(text: &[u8]) -> ArrayVec<u8, N>
-    ensures within { array_vec_len result ≤ length text.now }
-    ensures most { array_vec_len result ≤ N }
-{
-    let mut list = ArrayVec::new();
-    for byte in text {
-        let Some(class) = digit(*byte) else {
-            break;
-        };
-        if list.try_push(class).is_err() {
-            break;
+// The numbers of a line's rest, each after one space, in the list's first places; none if a word is no number, or if
+// there are more than the list has room for.
+pub fn words<'a>(text: &[u8], list: &'a mut [u32]) -> Option<&'a [u32]> {
+    let mut n = 0;
+    if !text.is_empty() {
+        for word in text.strip_prefix(b" ")?.split(|byte| *byte == b' ') {
+            *list.get_mut(n)? = number(word)?;
+            n += 1;
         }
     }
-    list
+    Some(&list[..n])
+}
+
+// The classes that a text begins with, a digit each, in the list's first places, as many as it has room for.
+pub fn classes<'a>(text: &[u8], list: &'a mut [u8]) -> &'a [u8]
+    ensures within { length result.now ≤ length list.old }
+    ensures most { length result.now ≤ length text.now }
+{
+    let mut n = 0;
+    for byte in text {
+        let (Some(class), Some(place)) = (digit(*byte), list.get_mut(n)) else {
+            break;
+        };
+        *place = class;
+        n += 1;
+    }
+    &list[..n]
 }

@@ -19,10 +19,11 @@ fn command(rt: &impl Print, line: &[u8], sheet: &mut Sheet, aside: &mut Sheet) -
     let [kind, text @ ..] = line else {
         return bad_line(rt);
     };
-    let Some(list) = cases::words::<128>(text) else {
+    let mut words = [0; 128];
+    let Some(list) = cases::words(text, &mut words) else {
         return bad_line(rt);
     };
-    match (kind, list.as_slice()) {
+    match (kind, list) {
         (b'n', [length, seed]) => fill::new_sheet(rt, sheet, *length, *seed),
         (b'x', []) => {
             mem::swap(sheet, aside);

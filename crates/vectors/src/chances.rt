@@ -31,10 +31,8 @@ pub fn answer<F: Fn(&[u32], [u32; 3], &mut [u64]) -> Result<Bounds, Refusal>>(
 ) -> io::Result<()>
     requires { F.IsAlwaysCallable call }
 {
-    let Some(words) = cases::words::<128>(text) else {
-        return print::bad_line(rt);
-    };
-    let [w0, w1, w2, needed, plan @ ..] = words.as_slice() else {
+    let mut list = [0; 128];
+    let Some([w0, w1, w2, needed, plan @ ..]) = cases::words(text, &mut list) else {
         return print::bad_line(rt);
     };
     let Some(scratch) = scratch.get_mut(..*needed as usize) else {

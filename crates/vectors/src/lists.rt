@@ -7,11 +7,13 @@ pub fn judged(rt: &impl Print, text: &[u8]) -> io::Result<()> {
     let [b' ', b'.', rest @ ..] = text else {
         return print::bad_line(rt);
     };
-    let list = cases::classes::<4096>(rest);
-    let Some(plan) = cases::words::<128>(&rest[list.len()..]) else {
+    let mut classes = [0; 4096];
+    let list = cases::classes(rest, &mut classes);
+    let mut words = [0; 128];
+    let Some(plan) = cases::words(&rest[list.len()..], &mut words) else {
         return print::bad_line(rt);
     };
-    match judge::judge(plan.as_slice(), list.as_slice()) {
+    match judge::judge(plan, list) {
         Ok(judgement) => print::judgement(rt, judgement),
         Err(refusal) => print::refusal(rt, refusal),
     }

@@ -5,10 +5,11 @@ use std::io;
 
 // `a W1 W2 ..`: is the plan admitted?
 pub fn admission(rt: &impl Print, text: &[u8]) -> io::Result<()> {
-    let Some(plan) = cases::words::<128>(text) else {
+    let mut words = [0; 128];
+    let Some(plan) = cases::words(text, &mut words) else {
         return print::bad_line(rt);
     };
-    if plan::admitted(plan.as_slice()) {
+    if plan::admitted(plan) {
         println!(rt; "admitted")
     } else {
         print::refusal(rt, Refusal::Plan)

@@ -1,10 +1,9 @@
--- The list has at most one class for each byte that is read, and at most N.
-use Rattle.std.proofs.Common.{◌≤◌}
-use Rattle.arrayvec.specs.ArrayVec.{array_vec_len}
+-- There are at most as many classes as bytes that are read, and as the list has places.
+use Rattle.std.proofs.Common.{◌≤◌, length}
 use Rattle.cases.proofs.classes.Given as goal
 
 abbrev pub invariant-loop-byte : goal.invariant-loop-byte
-invariant-loop-byte g l = record {
-  within : array_vec_len l.list ≤ l.byte-index;
-  most : array_vec_len l.list ≤ g.row.N;
+invariant-loop-byte l = record {
+  within : l.n ≤ length l.list;
+  most : l.n ≤ l.byte-index;
 }
