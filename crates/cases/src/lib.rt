@@ -7,7 +7,7 @@ pub mod print;
 
 ghost use Rattle.std.specs.Prelude.{◌≤◌, length};
 
-pub use lines::answer_lines;
+pub use lines::{Lines, answer_lines};
 
 // The value of a decimal digit; std's `to_digit` is of a char.
 fn digit(byte: u8) -> Option<u8> {

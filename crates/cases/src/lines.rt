@@ -1,18 +1,14 @@
 // The lines of an input, read block by block.
-ghost use Rattle.std.specs.Prelude.{◌≤◌};
+ghost use Rattle.std.specs.Prelude.{◌≤◌, ◌≡◌, length};
 
 use crate::print;
-use arrayvec::ArrayVec;
 use std::io;
-use std::io::{Read, Write};
-
-// A full list has the start of a line that is too long.
-type Line = ArrayVec<u8, 4096>;
+use std::io::Read;
 
 // The bytes of the block from `at` to `count` are not yet taken.
 // The block stands here, since std's BufReader takes one from an allocator, and the programs use no heap.
 #[derive(Drop)]
-struct Lines<R> {
+pub struct Lines<R> {
     reader: R,
     block: [u8; 65536],
     at: usize,
@@ -22,7 +18,7 @@ struct Lines<R> {
 }
 
 impl<R: Read> Lines<R> {
-    fn new(reader: R) -> Lines<R> {
+    pub fn new(reader: R) -> Lines<R> {
         Lines {
             reader,
             block: [0; 65536],
@@ -41,51 +37,63 @@ impl<R: Read> Lines<R> {
         self.at < self.count
     }
 
-    // Adds the block's bytes up to the next byte 10, or all, to the line. Does it end there?
-    fn take_piece(&mut self, line: &mut Line) -> bool {
+    // Adds the block's bytes up to the next byte 10, or all, to the n bytes of the line, as far as it has room. How many
+    // bytes it has then, and does it end there?
+    fn take_piece(&mut self, line: &mut [u8], n: usize) -> (usize, bool)
+        requires { n ≤ length line.old }
+        ensures { result.0 ≤ length line.old }
+    {
         let rest = &self.block[self.at..self.count];
         let end = rest.iter().position(|byte| *byte == b'\n');
         let size = end.unwrap_or(rest.len());
-        let _ = line.write(&rest[..size]);
+        let room = size.min(line.len() - n);
+        line[n..n + room].copy_from_slice(&rest[..room]);
         self.at += size + usize::from(end.is_some());
-        end.is_some()
+        (n + room, end.is_some())
     }
 
-    // Reads the next line; false at the input's end. The last line may lack its byte 10. Nothing says that a line ends:
-    // the turns are counted, up to a number that no run reaches.
-    fn read_line(&mut self, line: &mut Line) -> bool {
-        line.clear();
+    // Reads the next line, of which `line` takes as much as it has room for, and gives what it took; none at the input's
+    // end. The last line may lack its byte 10. Nothing says that a line ends: the turns are counted, up to a number that
+    // no run reaches.
+    pub fn read_line<'a>(&mut self, line: &'a mut [u8]) -> Option<&'a [u8]> {
+        let mut n = 0;
         for _ in 0..u64::MAX {
             if !self.refill() {
-                return !line.is_empty();
+                if n == 0 {
+                    return None;
+                }
+                break;
             }
-            if self.take_piece(line) {
+            let (more, ended) = self.take_piece(line, n);
+            n = more;
+            if ended {
                 break;
             }
         }
-        true
+        Some(&line[..n])
     }
 }
 
-// Answers each line, and ends at the first failed write. Nothing says that the input ends: the lines are counted, up to
-// a number that no run reaches.
+// Answers each line, and ends at the first failed write. A line that fills `line` is too long. Nothing says that the
+// input ends: the lines are counted, up to a number that no run reaches.
 pub fn answer_lines<R: Read + Drop, F: FnMut(&[u8]) -> io::Result<()> + Drop>(
     rt: &impl Print,
     input: R,
+    line: &mut [u8],
     mut answer: F,
 ) -> io::Result<()>
     requires { F.IsAlwaysCallable answer }
 {
+    let room = line.len();
     let mut lines = Lines::new(input);
-    let mut line = Line::new();
     for _ in 0..u64::MAX {
-        if !lines.read_line(&mut line) {
+        let Some(text) = lines.read_line(line) else {
             break;
-        }
-        if line.is_full() {
+        };
+        if text.len() == room {
             print::bad_line(rt)?;
         } else {
-            answer(line.as_slice())?;
+            answer(text)?;
         }
     }
     Ok(())

@@ -37,9 +37,11 @@ fn command(rt: &impl Print, line: &[u8], sheet: &mut Sheet, aside: &mut Sheet) -
 fn main(rt: HostRuntime) -> io::Result<()> {
     let mut sheet = Sheet::new();
     let mut aside = Sheet::new();
+    let mut line = [0u8; 4096];
     cases::answer_lines(
         &rt,
         rt.stdin(),
+        &mut line,
         |line| command(&rt, line, &mut sheet, &mut aside),
     )
 }

@@ -41,5 +41,11 @@ fn answer_case(rt: &impl Print, line: &[u8], scratch: &mut [u64]) -> io::Result<
 fn main(rt: HostRuntime) -> io::Result<()> {
     // enough for every admitted plan
     let mut scratch = [0u64; 7200];
-    cases::answer_lines(&rt, rt.stdin(), |line| answer_case(&rt, line, &mut scratch))
+    let mut line = [0u8; 4096];
+    cases::answer_lines(
+        &rt,
+        rt.stdin(),
+        &mut line,
+        |line| answer_case(&rt, line, &mut scratch),
+    )
 }
